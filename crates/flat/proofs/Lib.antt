@@ -1,0 +1,5 @@
+mod Bytes
+mod Scans
+mod Ranks
+mod Shifts
+mod Tables

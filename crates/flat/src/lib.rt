@@ -1,0 +1,397 @@
+// A list store over one table of records that the host lends: a key's list is its records in the table's order.
+ghost use mathlib.Core.Path.{_≡_};
+ghost use mathlib.Core.List.{List, [], _∷_, _++_};
+ghost use Prim.Native.Nat.{ℕ, _+_, _<_, _≤_};
+ghost use lib.ListN.{length, getD};
+ghost use lib.ListN.{set as changed};
+ghost use denote.Ref.{now};
+ghost use Rattle.std.specs.Orderings.{Decides};
+ghost use Rattle.std.specs.shelf.Lists.{inserted, removed};
+ghost use Rattle.std.specs.declared.result.Result.the-variants.{Ok, Err};
+ghost use Rattle.order.specs.Keys.{Key, key-in, key-order, longest-key};
+ghost use Rattle.store.specs.Limits.{longest-value, unfit-number};
+ghost use Rattle.store.specs.Lists.{at, keys-of};
+ghost use Rattle.store.specs.Answers.{over, place, Pushed, Popped, WasSet, Inserted, Removed};
+ghost use Rattle.store.specs.Rows.{lists-of, values-of, spot, AtRank};
+ghost use Rattle.flat.specs.Records.{key-of, value-of, row, rows, rows-in, flat-laws};
+ghost use Rattle.flat.specs.Changes.{RowsPushed, RowsPopped, RowsSet, RowsInserted, RowsRemoved, Fit, end-of};
+
+mod table;
+
+use order::KeyRow;
+use order::KeyRowOrder;
+use order::TotalOrder;
+use order::least;
+use order::least_after;
+use std::cmp::Ordering;
+use store::LARGEST_STORE;
+use store::LONGEST_KEY;
+use store::LONGEST_VALUE;
+use store::ListEnds;
+use store::Refusal;
+use store::Side;
+use store::UNFIT;
+use store::WholeLists;
+pub use table::Flat;
+pub use table::Record;
+
+// Copies bytes to the beginning of `out`; those behind them stay.
+fn lay(out: &mut [u8], bytes: &[u8])
+    requires { ⌜ length (now bytes) ≤ length (now out) ⌝ }
+    ensures { λ _. ⌜ now (out .exit) ≡ over (now (out .entry)) (now (bytes .entry)) ⌝ }
+{
+    out[0..bytes.len()].copy_from_slice(bytes);
+}
+
+impl Record {
+    // A record of the empty key with the empty value, to fill a table with.
+    pub fn blank() -> Record
+        ensures { λ r. ⌜ row r ≡ ([], []) ⌝ }
+    {
+        Record {
+            name: KeyRow {
+                len: 0,
+                bytes: [0; LONGEST_KEY],
+            },
+            value: [0; LONGEST_VALUE],
+            value_len: 0,
+        }
+    }
+
+    fn new(name: KeyRow, value: &[u8]) -> Record
+        requires { ⌜ length (now value) ≤ longest-value ⌝ }
+        ensures { λ r. ⌜ row r ≡ (key-in name, now (value .entry)) ⌝ }
+    {
+        let mut bytes = [0; LONGEST_VALUE];
+        lay(&mut bytes, value);
+        Record {
+            name,
+            value: bytes,
+            value_len: value.len() as u8,
+        }
+    }
+
+    fn has_key(&self, key: &[u8]) -> bool
+        ensures { λ r. ⌜ Decides r (now (key .entry) ≡ key-of (now (self .entry))) ⌝ }
+    {
+        key == self.name.as_bytes()
+    }
+
+    fn copy_value(&self, out: &mut [u8; LONGEST_VALUE]) -> usize
+        ensures few { λ r. ⌜ r ≤ longest-value ⌝ }
+        ensures len { λ r. ⌜ r ≡ length (value-of (now (self .entry))) ⌝ }
+        ensures copied { λ _. ⌜ now (out .exit) ≡ over (now (out .entry)) (value-of (now (self .entry))) ⌝ }
+    {
+        let n = self.value_len as usize;
+        lay(out, &self.value[0..n]);
+        n
+    }
+
+    fn copy_key(&self, out: &mut [u8; LONGEST_KEY]) -> usize
+        ensures few { λ r. ⌜ r ≤ longest-key ⌝ }
+        ensures len { λ r. ⌜ r ≡ length (key-of (now (self .entry))) ⌝ }
+        ensures copied { λ _. ⌜ now (out .exit) ≡ over (now (out .entry)) (key-of (now (self .entry))) ⌝ }
+    {
+        let key = self.name.as_bytes();
+        lay(out, key);
+        key.len()
+    }
+}
+
+// Records in the order of their keys.
+impl TotalOrder for Record as RecordOrder {
+    ghost Reading = { Key };
+
+    ghost reads = { key-of };
+
+    ghost order = { key-order };
+
+    fn compare(&self, other: &Self) -> Ordering {
+        self.name.compare(&other.name)
+    }
+}
+
+fn count(records: &[Record], key: &[u8]) -> usize
+    ensures { λ r. ⌜ r ≡ length (values-of (now (key .entry)) (rows (now (records .entry)))) ⌝ }
+{
+    let mut n: usize = 0;
+    for it in records {
+        if it.has_key(key) {
+            n += 1;
+        }
+    }
+    n
+}
+
+// Where the record of `key` stands that has `index` others of it before it; the records' number where there is none.
+fn find(records: &[Record], key: &[u8], index: usize) -> usize
+    ensures { λ r. ⌜ r ≡ spot (now (key .entry)) index (rows (now (records .entry))) ⌝ }
+{
+    let mut left = index;
+    let n = records.len();
+    for i in 0..n {
+        if records[i].has_key(key) {
+            if left == 0 {
+                return i;
+            }
+            left -= 1;
+        }
+    }
+    n
+}
+
+// Where a record goes in on a side of n records.
+fn end(side: Side, n: usize) -> usize
+    ensures { λ r. ⌜ r ≡ end-of side n ⌝ }
+{
+    match side {
+        Side::Left => 0,
+        Side::Right => n,
+    }
+}
+
+// The index of the value on a side of a list of n values.
+fn end_index(side: Side, n: usize) -> usize
+    requires { ⌜ 0 < n ⌝ }
+    ensures { λ r. ⌜ r ≡ place side n ⌝ }
+{
+    match side {
+        Side::Left => 0,
+        Side::Right => n - 1,
+    }
+}
+
+// A record with the key at a rank.
+fn ranked(records: &[Record], rank: usize) -> Option<usize>
+    ensures { λ r. ⌜ AtRank (rows (now (records .entry))) rank r ⌝ }
+{
+    let mut at = least(records);
+    for _i in 0..rank {
+        let Some(a) = at else {
+            return None;
+        };
+        at = least_after(records, a);
+    }
+    at
+}
+
+// A table that no store can be made over, as it was.
+#[derive(Drop)]
+pub struct Refused<'a> {
+    pub records: &'a mut [Record],
+}
+
+impl<'a> Refused<'a> {
+    pub fn number(&self) -> u8
+        ensures { λ r. ⌜ r ≡ unfit-number ⌝ }
+    {
+        UNFIT
+    }
+}
+
+// The empty store over a table of 1 to `LARGEST_STORE` records, or the table back.
+pub fn prepare<'a>(records: &'a mut [Record]) -> Result<Flat<'a>, Refused<'a>>
+    ensures { λ r. ⌜ elim r [
+      | Ok s ↦ Fit (length (now (records .entry))) × (length (now (s .records)) ≡ length (now (records .entry))) × (rows-in s ≡ [])
+      | Err e ↦ (Fit (length (now (records .entry))) → ⊥) × (now (e .records) ≡ now (records .entry))
+    ] ⌝ }
+{
+    let n = records.len();
+    if n < 1 || n > LARGEST_STORE {
+        return Err(Refused { records });
+    }
+    Ok(Flat { records, used: 0 })
+}
+
+impl<'a> Flat<'a> {
+    fn position(&self, key: &[u8], index: usize) -> usize
+        ensures { λ r. ⌜ r ≡ spot (now (key .entry)) index (rows-in (now (self .entry))) ⌝ }
+    {
+        find(&self.records[0..self.used], key, index)
+    }
+
+    fn ranked_at(&self, rank: usize) -> Option<usize>
+        ensures { λ r. ⌜ AtRank (rows-in (now (self .entry))) rank r ⌝ }
+    {
+        ranked(&self.records[0..self.used], rank)
+    }
+
+    fn copy(&self, i: usize, out: &mut [u8; LONGEST_VALUE]) -> usize
+        requires { ⌜ i < now self .used ⌝ }
+        ensures { λ r. ⌜ ((d : Record) → (r ≤ longest-value) × (r ≡ length (value-of (getD (now (now (self .entry) .records)) i d))) × (now (out .exit) ≡ over (now (out .entry)) (value-of (getD (now (now (self .entry) .records)) i d)))) ⌝ }
+    {
+        let it = self.records[i];
+        it.copy_value(out)
+    }
+
+    // Puts a record in at a place, those from there on one place up.
+    fn add_at(&mut self, at: usize, it: Record)
+        requires room { ⌜ now self .used < length (now (now self .records)) ⌝ }
+        requires within { ⌜ at ≤ now self .used ⌝ }
+        ensures long { λ _. ⌜ length (now (now (self .exit) .records)) ≡ length (now (now (self .entry) .records)) ⌝ }
+        ensures rows { λ _. ⌜ rows-in (now (self .exit)) ≡ inserted (rows-in (now (self .entry))) at (row it) ⌝ }
+    {
+        let mut i = self.used;
+        while i > at {
+            let before = self.records[i - 1];
+            self.records[i] = before;
+            i -= 1;
+        }
+        self.records[at] = it;
+        self.used += 1;
+    }
+
+    fn write(&mut self, at: usize, it: Record)
+        requires { ⌜ at < now self .used ⌝ }
+        ensures long { λ _. ⌜ length (now (now (self .exit) .records)) ≡ length (now (now (self .entry) .records)) ⌝ }
+        ensures rows { λ _. ⌜ rows-in (now (self .exit)) ≡ changed (rows-in (now (self .entry))) at (row it) ⌝ }
+    {
+        self.records[at] = it;
+    }
+
+    // Takes the record at a place out, those behind it one place down.
+    fn cut(&mut self, at: usize)
+        requires { ⌜ at < now self .used ⌝ }
+        ensures long { λ _. ⌜ length (now (now (self .exit) .records)) ≡ length (now (now (self .entry) .records)) ⌝ }
+        ensures rows { λ _. ⌜ rows-in (now (self .exit)) ≡ removed (rows-in (now (self .entry))) at ⌝ }
+    {
+        let last = self.used - 1;
+        let mut i = at;
+        while i < last {
+            let next = self.records[i + 1];
+            self.records[i] = next;
+            i += 1;
+        }
+        self.used = last;
+    }
+}
+
+pub impl<'a> ListEnds for Flat<'a> as FlatEnds {
+    ghost room = { λ s. length (now (s .records)) };
+
+    ghost lists = { λ s. lists-of (rows-in s) };
+
+    ghost laws = { flat-laws };
+
+    fn capacity(&self) -> usize {
+        self.records.len()
+    }
+
+    fn held(&self) -> usize {
+        self.used
+    }
+
+    fn len(&self, key: &[u8]) -> usize {
+        count(&self.records[0..self.used], key)
+    }
+
+    fn value_at(&self, key: &[u8], index: usize, out: &mut [u8; LONGEST_VALUE]) -> Option<usize> {
+        let i = self.position(key, index);
+        if i >= self.used {
+            return None;
+        }
+        Some(self.copy(i, out))
+    }
+
+    fn push(&mut self, side: Side, key: &[u8], value: &[u8]) -> Result<(), Refusal>
+        ensures kept { λ _. ⌜ length (now (now (self .exit) .records)) ≡ length (now (now (self .entry) .records)) ⌝ }
+        ensures pushed { λ r. ⌜ Pushed (length (now (now (self .entry) .records))) (lists-of (rows-in (now (self .entry)))) (lists-of (rows-in (now (self .exit)))) side (now (key .entry)) (now (value .entry)) r ⌝ }
+        ensures rows { λ r. ⌜ RowsPushed (rows-in (now (self .entry))) (rows-in (now (self .exit))) side (now (key .entry)) (now (value .entry)) r ⌝ }
+    {
+        let Some(name) = KeyRow::of(key) else {
+            return Err(Refusal::LongKey);
+        };
+        if value.len() > LONGEST_VALUE {
+            return Err(Refusal::LongValue);
+        }
+        if self.used == self.records.len() {
+            return Err(Refusal::Full);
+        }
+        let at = end(side, self.used);
+        let it = Record::new(name, value);
+        self.add_at(at, it);
+        Ok(())
+    }
+
+    fn pop(&mut self, side: Side, key: &[u8], out: &mut [u8; LONGEST_VALUE]) -> Option<usize>
+        ensures kept { λ _. ⌜ length (now (now (self .exit) .records)) ≡ length (now (now (self .entry) .records)) ⌝ }
+        ensures popped { λ r. ⌜ Popped (lists-of (rows-in (now (self .entry)))) (lists-of (rows-in (now (self .exit)))) side (now (key .entry)) (now (out .entry)) (now (out .exit)) r ⌝ }
+        ensures rows { λ r. ⌜ RowsPopped (rows-in (now (self .entry))) (rows-in (now (self .exit))) side (now (key .entry)) r ⌝ }
+    {
+        let n = self.len(key);
+        if n == 0 {
+            return None;
+        }
+        let i = self.position(key, end_index(side, n));
+        let len = self.copy(i, out);
+        self.cut(i);
+        Some(len)
+    }
+
+    fn key_at(&self, rank: usize, out: &mut [u8; LONGEST_KEY]) -> Option<usize> {
+        let Some(i) = self.ranked_at(rank) else {
+            return None;
+        };
+        let it = self.records[i];
+        Some(it.copy_key(out))
+    }
+}
+
+pub impl<'a> WholeLists for Flat<'a> as FlatWhole {
+    fn set(&mut self, key: &[u8], index: usize, value: &[u8]) -> Result<(), Refusal>
+        ensures kept { λ _. ⌜ length (now (now (self .exit) .records)) ≡ length (now (now (self .entry) .records)) ⌝ }
+        ensures was_set { λ r. ⌜ WasSet (lists-of (rows-in (now (self .entry)))) (lists-of (rows-in (now (self .exit)))) (now (key .entry)) index (now (value .entry)) r ⌝ }
+        ensures rows { λ r. ⌜ RowsSet (rows-in (now (self .entry))) (rows-in (now (self .exit))) (now (key .entry)) index (now (value .entry)) r ⌝ }
+    {
+        let Some(name) = KeyRow::of(key) else {
+            return Err(Refusal::LongKey);
+        };
+        if value.len() > LONGEST_VALUE {
+            return Err(Refusal::LongValue);
+        }
+        let i = self.position(key, index);
+        if i >= self.used {
+            return Err(Refusal::OutOfRange);
+        }
+        self.write(i, Record::new(name, value));
+        Ok(())
+    }
+
+    fn insert(&mut self, key: &[u8], index: usize, value: &[u8]) -> Result<(), Refusal>
+        ensures kept { λ _. ⌜ length (now (now (self .exit) .records)) ≡ length (now (now (self .entry) .records)) ⌝ }
+        ensures inserted { λ r. ⌜ Inserted (length (now (now (self .entry) .records))) (lists-of (rows-in (now (self .entry)))) (lists-of (rows-in (now (self .exit)))) (now (key .entry)) index (now (value .entry)) r ⌝ }
+        ensures rows { λ r. ⌜ RowsInserted (rows-in (now (self .entry))) (rows-in (now (self .exit))) (now (key .entry)) index (now (value .entry)) r ⌝ }
+    {
+        let Some(name) = KeyRow::of(key) else {
+            return Err(Refusal::LongKey);
+        };
+        if value.len() > LONGEST_VALUE {
+            return Err(Refusal::LongValue);
+        }
+        if self.used == self.records.len() {
+            return Err(Refusal::Full);
+        }
+        if index > self.len(key) {
+            return Err(Refusal::OutOfRange);
+        }
+        let i = self.position(key, index);
+        self.add_at(i, Record::new(name, value));
+        Ok(())
+    }
+
+    fn remove(&mut self, key: &[u8], index: usize) -> Result<(), Refusal>
+        ensures kept { λ _. ⌜ length (now (now (self .exit) .records)) ≡ length (now (now (self .entry) .records)) ⌝ }
+        ensures removed { λ r. ⌜ Removed (lists-of (rows-in (now (self .entry)))) (lists-of (rows-in (now (self .exit)))) (now (key .entry)) index r ⌝ }
+        ensures rows { λ r. ⌜ RowsRemoved (rows-in (now (self .entry))) (rows-in (now (self .exit))) (now (key .entry)) index r ⌝ }
+    {
+        if key.len() > LONGEST_KEY {
+            return Err(Refusal::LongKey);
+        }
+        let i = self.position(key, index);
+        if i >= self.used {
+            return Err(Refusal::OutOfRange);
+        }
+        self.cut(i);
+        Ok(())
+    }
+}

@@ -1,0 +1,4 @@
+pub mod ListLaws
+pub mod RowLaws
+pub mod RankLaws
+pub mod SpotLaws

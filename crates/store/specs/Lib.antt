@@ -1,0 +1,4 @@
+pub mod Limits
+pub mod Lists
+pub mod Answers
+pub mod Rows

@@ -1,0 +1,44 @@
+-- The lists that a sequence of rows shows, each a key and a value: a key's list is the values of its rows, in their order.
+use mathlib.Core.Path.{_≡_}
+use mathlib.Core.List.{List, [], _∷_, map}
+use mathlib.Core.Bool.{cond}
+use Prim.Native.Nat.{ℕ, zero, suc, _≤_, _<_}
+use lib.ListN.{length, getD}
+use Rattle.std.specs.declared.option.Option.{Option}
+use Rattle.std.specs.declared.option.Option.the-variants.{Some, None}
+use Rattle.std.specs.Orderings.{isEq}
+use Rattle.order.specs.Keys.{Key, key-order, longest-key}
+use Rattle.store.specs.Limits.{longest-value}
+use Rattle.store.specs.Lists.{Value, Lists, at, put, keys-of}
+
+abbrev pub Row : Type 0
+Row = Key × Value
+
+unfoldable pub values-of : Key → List Row → List Value
+values-of k [] = []
+values-of k (p ∷ ps) = cond (isEq (key-order k (p .0))) (p .1 ∷ values-of k ps) (values-of k ps)
+
+unfoldable pub lists-of : List Row → Lists
+lists-of [] = []
+lists-of (p ∷ ps) = put (lists-of ps) (p .0) (p .1 ∷ at (lists-of ps) (p .0))
+
+-- one place further in, unless the row is the one sought
+abbrev pub onward : ℕ → (ℕ → ℕ) → ℕ
+onward zero seek = zero
+onward (suc i) seek = suc (seek i)
+
+-- where the row of k stands that has i rows of k before it; past the last row where there is none
+unfoldable pub spot : Key → ℕ → List Row → ℕ
+spot k i [] = zero
+spot k i (p ∷ ps) = cond (isEq (key-order k (p .0))) (onward i (λ j. spot k j ps)) (suc (spot k i ps))
+
+abbrev pub Short : Row → Type 0
+Short p = (length (p .0) ≤ longest-key) × (length (p .1) ≤ longest-value)
+
+abbrev pub names : List Row → List Key
+names ps = map (λ p. p .0) ps
+
+-- which row has the key at a rank, or that there is no such key
+abbrev pub AtRank : List Row → ℕ → Option ℕ → Type 0
+AtRank ps r None = length (keys-of (lists-of ps)) ≤ r
+AtRank ps r (Some b) = (b < length (names ps)) × (r < length (keys-of (lists-of ps))) × (getD (names ps) b [] ≡ getD (keys-of (lists-of ps)) r [])
