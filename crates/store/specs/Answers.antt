@@ -1,7 +1,9 @@
 -- What each operation of a list store answers and leaves, for the lists before, `ls`, and after, `ls′`.
 use mathlib.Core.Path.{_≡_}
 use mathlib.Core.List.{List, [], _∷_, _++_}
+use mathlib.Core.Bool.{Bool, cond}
 use Prim.Native.Nat.{ℕ, _-_, _≤_, _<_}
+use lib.Dec.{eqb, leb, ltb}
 use lib.ListN.{length, getD, take, drop, set}
 use Rattle.std.specs.shelf.Lists.{inserted, removed}
 use Rattle.std.specs.declared.option.Option.{Option}
@@ -13,8 +15,39 @@ use Rattle.store.specs.declared.Side.{Side}
 use Rattle.store.specs.declared.Side.the-variants.{Left, Right}
 use Rattle.store.specs.declared.Refusal.{Refusal}
 use Rattle.store.specs.declared.Refusal.the-variants.{LongKey, LongValue, Full, OutOfRange}
-use Rattle.store.specs.Limits.{longest-value}
+use Rattle.store.specs.Limits.{longest-value, refusal-number}
 use Rattle.store.specs.Lists.{Value, Lists, at, put, held}
+
+-- ---- what is asked before a change
+
+-- the number of an answer: 0 where the change was made
+abbrev pub answer : {U : Type 0} → Result U Refusal → ℕ
+answer (Ok _) = 0
+answer (Err e) = refusal-number e
+
+-- a question: where it fails its refusal is the answer, else the next question is asked
+abbrev pub asked : Bool → Refusal → ℕ → ℕ
+asked fails e next = cond fails (refusal-number e) next
+
+abbrev pub too-long : ℕ → List ℕ → Bool
+too-long most bytes = ltb most (length bytes)
+
+abbrev pub push-answer : ℕ → Lists → Key → Value → ℕ
+push-answer room ls k v = asked (too-long longest-key k) LongKey (asked (too-long longest-value v) LongValue (asked (eqb (held ls) room) Full 0))
+
+abbrev pub set-answer : Lists → Key → ℕ → Value → ℕ
+set-answer ls k i v = asked (too-long longest-key k) LongKey (asked (too-long longest-value v) LongValue (asked (leb (length (at ls k)) i) OutOfRange 0))
+
+abbrev pub insert-answer : ℕ → Lists → Key → ℕ → Value → ℕ
+insert-answer room ls k i v = asked (too-long longest-key k) LongKey (asked (too-long longest-value v) LongValue (asked (eqb (held ls) room) Full (asked (ltb (length (at ls k)) i) OutOfRange 0)))
+
+abbrev pub remove-answer : Lists → Key → ℕ → ℕ
+remove-answer ls k i = asked (too-long longest-key k) LongKey (asked (leb (length (at ls k)) i) OutOfRange 0)
+
+-- the answer has this number, and the lists are `new` where it is 0, else as they were
+pub record Done {U : Type 0} (number : ℕ) (new ls ls′ : Lists) (r : Result U Refusal) : Type 0 where
+  pub tells : answer r ≡ number
+  pub leaves : ls′ ≡ cond (eqb number 0) new ls
 
 -- ---- ends
 
@@ -42,16 +75,8 @@ abbrev pub Copied : ℕ → List (List ℕ) → ℕ → List ℕ → List ℕ �
 Copied most items i out out′ None = (length items ≤ i) × (out′ ≡ out)
 Copied most items i out out′ (Some n) = (i < length items) × (n ≤ most) × (n ≡ length (getD items i [])) × (out′ ≡ over out (getD items i []))
 
--- a refusal names the first reason that holds, in the order of the cases
-abbrev pub NotPushed : ℕ → Lists → Key → Value → Refusal → Type 0
-NotPushed room ls k v LongKey = longest-key < length k
-NotPushed room ls k v LongValue = (length k ≤ longest-key) × (longest-value < length v)
-NotPushed room ls k v Full = (length k ≤ longest-key) × (length v ≤ longest-value) × (held ls ≡ room)
-NotPushed room ls k v OutOfRange = ⊥
-
 abbrev pub Pushed : {U : Type 0} → ℕ → Lists → Lists → Side → Key → Value → Result U Refusal → Type 0
-Pushed room ls ls′ s k v (Ok _) = (length k ≤ longest-key) × (length v ≤ longest-value) × (held ls < room) × (ls′ ≡ put ls k (joined s (at ls k) v))
-Pushed room ls ls′ s k v (Err e) = NotPushed room ls k v e × (ls′ ≡ ls)
+Pushed room ls ls′ s k v r = Done (push-answer room ls k v) (put ls k (joined s (at ls k) v)) ls ls′ r
 
 abbrev pub Popped : Lists → Lists → Side → Key → List ℕ → List ℕ → Option ℕ → Type 0
 Popped ls ls′ s k out out′ None = (at ls k ≡ []) × (ls′ ≡ ls) × (out′ ≡ out)
@@ -59,32 +84,11 @@ Popped ls ls′ s k out out′ (Some n) = Copied longest-value (at ls k) (place 
 
 -- ---- whole lists
 
-abbrev pub NotSet : Lists → Key → ℕ → Value → Refusal → Type 0
-NotSet ls k i v LongKey = longest-key < length k
-NotSet ls k i v LongValue = (length k ≤ longest-key) × (longest-value < length v)
-NotSet ls k i v Full = ⊥
-NotSet ls k i v OutOfRange = (length k ≤ longest-key) × (length v ≤ longest-value) × (length (at ls k) ≤ i)
-
 abbrev pub WasSet : {U : Type 0} → Lists → Lists → Key → ℕ → Value → Result U Refusal → Type 0
-WasSet ls ls′ k i v (Ok _) = (length k ≤ longest-key) × (length v ≤ longest-value) × (i < length (at ls k)) × (ls′ ≡ put ls k (set (at ls k) i v))
-WasSet ls ls′ k i v (Err e) = NotSet ls k i v e × (ls′ ≡ ls)
-
-abbrev pub NotInserted : ℕ → Lists → Key → ℕ → Value → Refusal → Type 0
-NotInserted room ls k i v LongKey = longest-key < length k
-NotInserted room ls k i v LongValue = (length k ≤ longest-key) × (longest-value < length v)
-NotInserted room ls k i v Full = (length k ≤ longest-key) × (length v ≤ longest-value) × (held ls ≡ room)
-NotInserted room ls k i v OutOfRange = (length k ≤ longest-key) × (length v ≤ longest-value) × (held ls < room) × (length (at ls k) < i)
+WasSet ls ls′ k i v r = Done (set-answer ls k i v) (put ls k (set (at ls k) i v)) ls ls′ r
 
 abbrev pub Inserted : {U : Type 0} → ℕ → Lists → Lists → Key → ℕ → Value → Result U Refusal → Type 0
-Inserted room ls ls′ k i v (Ok _) = (length k ≤ longest-key) × (length v ≤ longest-value) × (held ls < room) × (i ≤ length (at ls k)) × (ls′ ≡ put ls k (inserted (at ls k) i v))
-Inserted room ls ls′ k i v (Err e) = NotInserted room ls k i v e × (ls′ ≡ ls)
-
-abbrev pub NotRemoved : Lists → Key → ℕ → Refusal → Type 0
-NotRemoved ls k i LongKey = longest-key < length k
-NotRemoved ls k i LongValue = ⊥
-NotRemoved ls k i Full = ⊥
-NotRemoved ls k i OutOfRange = (length k ≤ longest-key) × (length (at ls k) ≤ i)
+Inserted room ls ls′ k i v r = Done (insert-answer room ls k i v) (put ls k (inserted (at ls k) i v)) ls ls′ r
 
 abbrev pub Removed : {U : Type 0} → Lists → Lists → Key → ℕ → Result U Refusal → Type 0
-Removed ls ls′ k i (Ok _) = (length k ≤ longest-key) × (i < length (at ls k)) × (ls′ ≡ put ls k (removed (at ls k) i))
-Removed ls ls′ k i (Err e) = NotRemoved ls k i e × (ls′ ≡ ls)
+Removed ls ls′ k i r = Done (remove-answer ls k i) (put ls k (removed (at ls k) i)) ls ls′ r

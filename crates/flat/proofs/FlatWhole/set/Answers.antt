@@ -1,13 +1,15 @@
 use mathlib.Core.Path.{refl, ap, _∙_}
 use native.Mathlib.Omega.{arith}
 use Rattle.flat.specs.Records.{row, rows-in}
+use Rattle.store.specs.declared.Refusal.the-variants.{OutOfRange}
+use Rattle.store.proofs.AnswerLaws.{undone, done, set-out-of-range, set-fits}
 use Rattle.flat.proofs.Tables.{in-range, in-range-list, out-of-range, set-there}
 use Rattle.flat.proofs.FlatWhole.set.Needs as need
 
 pub returns-then-i-self : need.returns-then-i-self
 returns-then-i-self c = record {
   kept = refl;
-  was-set = ((c .in-Some .ensures tt .0, omega arith, out-of-range (c .args .self .now) (c .args .key .now) (c .args .index) (c .position-i .result) (c .position-i .ensures) (omega arith)), refl);
+  was-set = undone _ _ _ OutOfRange (set-out-of-range _ (c .args .key .now) (c .args .index) (c .args .value .now) (c .in-Some .ensures tt .0) (omega arith) (out-of-range (c .args .self .now) (c .args .key .now) (c .args .index) (c .position-i .result) (c .position-i .ensures) (omega arith)));
   rows = refl;
 }
 
@@ -21,6 +23,6 @@ returns c =
     (c .new .ensures ∙ ap (λ x. (x, v)) (c .in-Some .ensures tt .1)) (c .write .ensures .rows) in
     record {
       kept = c .write .ensures .long;
-      was-set = (c .in-Some .ensures tt .0, omega arith, in-range-list s k (c .args .index) (c .position-i .result) (c .position-i .ensures) (omega arith), f .1);
+      was-set = done _ _ _ _ _ (set-fits _ k (c .args .index) v (c .in-Some .ensures tt .0) (omega arith) (in-range-list s k (c .args .index) (c .position-i .result) (c .position-i .ensures) (omega arith))) (f .1);
       rows = f .0;
     }
