@@ -12,12 +12,12 @@ use Rattle.order.specs.Keys.{Key, longest-key}
 use Rattle.store.specs.declared.Side.{Side}
 use Rattle.store.specs.declared.Side.the-variants.{Left, Right}
 use Rattle.store.specs.Limits.{longest-value}
-use Rattle.store.specs.Answers.{joined, place, rest, over, Copied, Popped}
+use Rattle.store.specs.Answers.{joined, place, over, Copied, Popped}
 use Rattle.store.specs.Lists.{Value, Lists, at, put, keys-of}
 use Rattle.store.specs.Lists.{held as elements}
 use Rattle.store.specs.Rows.{Row, values-of, lists-of, spot, AtRank}
 use Rattle.store.proofs.RowLaws.{at-rows, held-rows, rows-left, rows-right}
-use Rattle.store.proofs.SpotLaws.{spot-row, spot-some, spot-none, spot-few, rest-is, place-within, rows-removed, rows-set, rows-inserted}
+use Rattle.store.proofs.SpotLaws.{spot-row, spot-some, spot-few, place-within, rows-removed, rows-set, rows-inserted}
 use Rattle.flat.specs.declared.table.Record.{Record}
 use Rattle.flat.specs.declared.table.Flat.{Flat}
 use Rattle.flat.specs.Records.{key-of, value-of, row, rows, rows-in}
@@ -64,14 +64,6 @@ pushed-rows s ps ps′ n p k v e q h = h ∙ (λ j. inserted ps (e j) (q j)) ∙
 pub pushed-lists : (s : Side) (ps ps′ : List Row) (k : Key) (v : Value) → ps′ ≡ joined-rows s ps (k, v) → lists-of ps′ ≡ put (lists-of ps) k (joined s (at (lists-of ps) k) v)
 pushed-lists s ps ps′ k v h = ap lists-of h ∙ rows-joined s ps k v
 
--- ---- pop
-
-pub popped-lists : (s : Side) (ps ps′ : List Row) (k : Key) → 0 < length (values-of k ps) → ps′ ≡ removed ps (spot k (place s (length (values-of k ps))) ps) → lists-of ps′ ≡ put (lists-of ps) k (rest s (at (lists-of ps) k))
-popped-lists s ps ps′ k l h =
-    let n = ap length (at-rows k ps) in
-    ap lists-of h ∙ rows-removed k (place s (length (values-of k ps))) ps (place-within s (length (values-of k ps)) l)
-    ∙ ap (put (lists-of ps) k) (ap (λ m. removed (at (lists-of ps) k) (place s m)) (sym n) ∙ sym (rest-is s (at (lists-of ps) k) (omega arith)))
-
 -- ---- the key at a rank
 
 pub ranked-within : (s : Flat) (rank i : ℕ) → AtRank (rows-in s) rank (Some i) → i < s .used
@@ -82,19 +74,6 @@ key-there s rank i len it out out′ w e f h g =
     let l = ranked-within s rank i w in
     let k : key-of it ≡ getD (keys-of (lists-of (rows-in s))) rank [] = ap key-of (e blank ∙ sym (getD-take (s .used) (now (s .records)) i blank l)) ∙ same-name (take (s .used) (now (s .records))) i ∙ w .2 in
     (w .1, f, h ∙ ap length k, g ∙ ap (over out) k)
-
--- where the value on a side of a list that is not empty stands
-pub found-end : (s : Flat) (side : Side) (k : Key) (n i m : ℕ) → n ≡ length (at (lists-of (rows-in s)) k) → 0 < n → i ≡ place side n → m ≡ spot k i (rows-in s) → (m ≡ spot k (place side (length (values-of k (rows-in s)))) (rows-in s)) × (m < s .used)
-found-end s side k n i m e l h g =
-    let q : m ≡ spot k (place side (length (values-of k (rows-in s)))) (rows-in s) = g ∙ ap (λ j. spot k j (rows-in s)) (h ∙ ap (place side) (e ∙ len-is s k)) in
-    let w = place-within side (length (values-of k (rows-in s))) (omega (arith, len-is s k)) in
-    (q, omega (arith, rows-long s, spot-row k (place side (length (values-of k (rows-in s)))) (rows-in s) w (k, []) .0))
-
-pub popped-there : (s : Flat) (side : Side) (k : Key) (m len : ℕ) (out out′ : List ℕ) (ps′ : List Row) → 0 < length (values-of k (rows-in s)) → m ≡ spot k (place side (length (values-of k (rows-in s)))) (rows-in s) → m < s .used → ((d : Record) → (len ≤ longest-value) × (len ≡ length (value-of (getD (now (s .records)) m d))) × (out′ ≡ over out (value-of (getD (now (s .records)) m d)))) → ps′ ≡ removed (rows-in s) (spot k (place side (length (values-of k (rows-in s)))) (rows-in s)) → Popped (lists-of (rows-in s)) (lists-of ps′) side k out out′ (Some len)
-popped-there s side k m len out out′ ps′ l e w h r = (
-  subst (λ (n : ℕ). Copied longest-value (at (lists-of (rows-in s)) k) (place side n) out out′ (Some len)) (sym (len-is s k)) (copied-there s k (place side (length (values-of k (rows-in s)))) m len out out′ e w h),
-  popped-lists side (rows-in s) ps′ k l r,
-)
 
 -- ---- at an index
 
@@ -107,15 +86,12 @@ inserted-there k i n v ps ps′ p l e q h = let f : ps′ ≡ inserted ps (spot 
 pub removed-there : (k : Key) (i n : ℕ) (ps ps′ : List Row) → i < length (values-of k ps) → n ≡ spot k i ps → ps′ ≡ removed ps n → (ps′ ≡ removed ps (spot k i ps)) × (lists-of ps′ ≡ put (lists-of ps) k (removed (at (lists-of ps) k) i))
 removed-there k i n ps ps′ l e h = let f : ps′ ≡ removed ps (spot k i ps) = h ∙ ap (removed ps) e in (f, ap lists-of f ∙ rows-removed k i ps l)
 
-module _ (s : Flat) (k : Key) (i n : ℕ) (e : n ≡ spot k i (rows-in s)) where
-  pub in-range : n < s .used → i < length (values-of k (rows-in s))
-  in-range l = spot-some k i (rows-in s) (omega (arith, rows-long s))
+-- where an element of the lists stands among the rows
+pub in-rows : (s : Flat) (k : Key) (i : ℕ) → i < length (at (lists-of (rows-in s)) k) → i < length (values-of k (rows-in s))
+in-rows s k i l = omega (arith, len-is s k)
 
-  pub in-range-list : n < s .used → i < length (at (lists-of (rows-in s)) k)
-  in-range-list l = omega (arith, in-range l, len-is s k)
+pub in-table : (s : Flat) (k : Key) (i n : ℕ) → n ≡ spot k i (rows-in s) → i < length (at (lists-of (rows-in s)) k) → n < s .used
+in-table s k i n e l = omega (arith, rows-long s, spot-row k i (rows-in s) (in-rows s k i l) (k, []) .0)
 
-  pub out-of-range : s .used ≤ n → length (at (lists-of (rows-in s)) k) ≤ i
-  out-of-range l = omega (arith, len-is s k, spot-none k i (rows-in s) (omega (arith, rows-long s)))
-
-  pub within-table : i ≤ length (values-of k (rows-in s)) → n ≤ s .used
-  within-table l = omega (arith, rows-long s, spot-few k i (rows-in s))
+pub within-table : (s : Flat) (k : Key) (i n : ℕ) → n ≡ spot k i (rows-in s) → n ≤ s .used
+within-table s k i n e = omega (arith, rows-long s, spot-few k i (rows-in s))

@@ -14,8 +14,8 @@ use Rattle.store.specs.declared.Side.the-variants.{Left, Right}
 use Rattle.store.specs.declared.Refusal.{Refusal}
 use Rattle.store.specs.Limits.{largest-store}
 use Rattle.store.specs.Answers.{place}
-use Rattle.store.specs.Lists.{Value}
-use Rattle.store.specs.Rows.{Row, values-of, spot}
+use Rattle.store.specs.Lists.{Value, at}
+use Rattle.store.specs.Rows.{Row, lists-of, spot}
 
 -- a left push goes before all rows, a right push after all
 abbrev pub joined-rows : Side → List Row → Row → List Row
@@ -33,7 +33,7 @@ RowsPushed ps ps′ s k v (Err _) = ps′ ≡ ps
 
 abbrev pub RowsPopped : List Row → List Row → Side → Key → Option ℕ → Type 0
 RowsPopped ps ps′ s k None = ps′ ≡ ps
-RowsPopped ps ps′ s k (Some _) = ps′ ≡ removed ps (spot k (place s (length (values-of k ps))) ps)
+RowsPopped ps ps′ s k (Some _) = ps′ ≡ removed ps (spot k (place s (length (at (lists-of ps) k))) ps)
 
 abbrev pub RowsSet : {U : Type 0} → List Row → List Row → Key → ℕ → Value → Result U Refusal → Type 0
 RowsSet ps ps′ k i v (Ok _) = ps′ ≡ set ps (spot k i ps) (k, v)

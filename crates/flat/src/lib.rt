@@ -7,14 +7,16 @@ ghost use lib.ListN.{set as changed};
 ghost use denote.Ref.{now};
 ghost use Rattle.std.specs.Orderings.{Decides};
 ghost use Rattle.std.specs.shelf.Lists.{inserted, removed};
+ghost use Rattle.std.specs.declared.option.Option.the-variants.{Some};
 ghost use Rattle.std.specs.declared.result.Result.the-variants.{Ok, Err};
 ghost use Rattle.order.specs.Keys.{Key, key-in, key-order, longest-key};
 ghost use Rattle.store.specs.Limits.{longest-value, unfit-number};
-ghost use Rattle.store.specs.Lists.{at, keys-of};
-ghost use Rattle.store.specs.Answers.{over, place, Pushed, Popped, WasSet, Inserted, Removed};
+ghost use Rattle.store.specs.Lists.{at, put, keys-of};
+ghost use Rattle.store.specs.Lists.{held as elements};
+ghost use Rattle.store.specs.Answers.{over, place, joined, Copied, Pushed, Popped, WasSet, Inserted, Removed};
 ghost use Rattle.store.specs.Rows.{lists-of, values-of, spot, AtRank};
 ghost use Rattle.flat.specs.Records.{key-of, value-of, row, rows, rows-in, flat-laws};
-ghost use Rattle.flat.specs.Changes.{RowsPushed, RowsPopped, RowsSet, RowsInserted, RowsRemoved, Fit, end-of};
+ghost use Rattle.flat.specs.Changes.{RowsPushed, RowsPopped, RowsSet, RowsInserted, RowsRemoved, Fit, end-of, joined-rows};
 
 mod table;
 
@@ -203,6 +205,7 @@ pub fn prepare<'a>(records: &'a mut [Record]) -> Result<Flat<'a>, Refused<'a>>
     Ok(Flat { records, used: 0 })
 }
 
+// What is done to the table, by the records' places.
 impl<'a> Flat<'a> {
     fn position(&self, key: &[u8], index: usize) -> usize
         ensures { λ r. ⌜ r ≡ spot (now (key .entry)) index (rows-in (now (self .entry))) ⌝ }
@@ -210,18 +213,16 @@ impl<'a> Flat<'a> {
         find(&self.records[0..self.used], key, index)
     }
 
+    fn position_of(&self, name: &KeyRow, index: usize) -> usize
+        ensures { λ r. ⌜ r ≡ spot (key-in (now (name .entry))) index (rows-in (now (self .entry))) ⌝ }
+    {
+        self.position(name.as_bytes(), index)
+    }
+
     fn ranked_at(&self, rank: usize) -> Option<usize>
         ensures { λ r. ⌜ AtRank (rows-in (now (self .entry))) rank r ⌝ }
     {
         ranked(&self.records[0..self.used], rank)
-    }
-
-    fn copy(&self, i: usize, out: &mut [u8; LONGEST_VALUE]) -> usize
-        requires { ⌜ i < now self .used ⌝ }
-        ensures { λ r. ⌜ ((d : Record) → (r ≤ longest-value) × (r ≡ length (value-of (getD (now (now (self .entry) .records)) i d))) × (now (out .exit) ≡ over (now (out .entry)) (value-of (getD (now (now (self .entry) .records)) i d)))) ⌝ }
-    {
-        let it = self.records[i];
-        it.copy_value(out)
     }
 
     // Puts a record in at a place, those from there on one place up.
@@ -266,6 +267,87 @@ impl<'a> Flat<'a> {
     }
 }
 
+// The same by what it does to the lists.
+impl<'a> Flat<'a> {
+    fn elements_held(&self) -> usize
+        ensures { λ r. ⌜ (r ≡ elements (lists-of (rows-in (now (self .entry))))) × (r ≡ now (self .entry) .used) ⌝ }
+    {
+        self.used
+    }
+
+    fn elements_of(&self, key: &[u8]) -> usize
+        ensures { λ r. ⌜ r ≡ length (at (lists-of (rows-in (now (self .entry)))) (now (key .entry))) ⌝ }
+    {
+        count(&self.records[0..self.used], key)
+    }
+
+    fn copy_element(&self, key: &[u8], index: usize, out: &mut [u8; LONGEST_VALUE]) -> usize
+        requires { ⌜ index < length (at (lists-of (rows-in (now self))) (now key)) ⌝ }
+        ensures { λ r. ⌜ Copied longest-value (at (lists-of (rows-in (now (self .entry)))) (now (key .entry))) index (now (out .entry)) (now (out .exit)) (Some r) ⌝ }
+    {
+        let i = self.position(key, index);
+        let it = self.records[i];
+        it.copy_value(out)
+    }
+
+    fn copy_ranked(&self, rank: usize, out: &mut [u8; LONGEST_KEY]) -> Option<usize>
+        ensures { λ r. ⌜ Copied longest-key (keys-of (lists-of (rows-in (now (self .entry))))) rank (now (out .entry)) (now (out .exit)) r ⌝ }
+    {
+        let Some(i) = self.ranked_at(rank) else {
+            return None;
+        };
+        let it = self.records[i];
+        Some(it.copy_key(out))
+    }
+
+    fn add_end(&mut self, side: Side, name: KeyRow, value: &[u8])
+        requires room { ⌜ now self .used < length (now (now self .records)) ⌝ }
+        requires short { ⌜ length (now value) ≤ longest-value ⌝ }
+        ensures long { λ _. ⌜ length (now (now (self .exit) .records)) ≡ length (now (now (self .entry) .records)) ⌝ }
+        ensures rows { λ _. ⌜ rows-in (now (self .exit)) ≡ joined-rows side (rows-in (now (self .entry))) (key-in name, now (value .entry)) ⌝ }
+        ensures lists { λ _. ⌜ lists-of (rows-in (now (self .exit))) ≡ put (lists-of (rows-in (now (self .entry)))) (key-in name) (joined side (at (lists-of (rows-in (now (self .entry)))) (key-in name)) (now (value .entry))) ⌝ }
+    {
+        let at = end(side, self.used);
+        let it = Record::new(name, value);
+        self.add_at(at, it);
+    }
+
+    fn write_element(&mut self, name: KeyRow, index: usize, value: &[u8])
+        requires within { ⌜ index < length (at (lists-of (rows-in (now self))) (key-in name)) ⌝ }
+        requires short { ⌜ length (now value) ≤ longest-value ⌝ }
+        ensures long { λ _. ⌜ length (now (now (self .exit) .records)) ≡ length (now (now (self .entry) .records)) ⌝ }
+        ensures rows { λ _. ⌜ rows-in (now (self .exit)) ≡ changed (rows-in (now (self .entry))) (spot (key-in name) index (rows-in (now (self .entry)))) (key-in name, now (value .entry)) ⌝ }
+        ensures lists { λ _. ⌜ lists-of (rows-in (now (self .exit))) ≡ put (lists-of (rows-in (now (self .entry)))) (key-in name) (changed (at (lists-of (rows-in (now (self .entry)))) (key-in name)) index (now (value .entry))) ⌝ }
+    {
+        let i = self.position_of(&name, index);
+        let it = Record::new(name, value);
+        self.write(i, it);
+    }
+
+    fn add_element(&mut self, name: KeyRow, index: usize, value: &[u8])
+        requires room { ⌜ now self .used < length (now (now self .records)) ⌝ }
+        requires within { ⌜ index ≤ length (at (lists-of (rows-in (now self))) (key-in name)) ⌝ }
+        requires short { ⌜ length (now value) ≤ longest-value ⌝ }
+        ensures long { λ _. ⌜ length (now (now (self .exit) .records)) ≡ length (now (now (self .entry) .records)) ⌝ }
+        ensures rows { λ _. ⌜ rows-in (now (self .exit)) ≡ inserted (rows-in (now (self .entry))) (spot (key-in name) index (rows-in (now (self .entry)))) (key-in name, now (value .entry)) ⌝ }
+        ensures lists { λ _. ⌜ lists-of (rows-in (now (self .exit))) ≡ put (lists-of (rows-in (now (self .entry)))) (key-in name) (inserted (at (lists-of (rows-in (now (self .entry)))) (key-in name)) index (now (value .entry))) ⌝ }
+    {
+        let i = self.position_of(&name, index);
+        let it = Record::new(name, value);
+        self.add_at(i, it);
+    }
+
+    fn cut_element(&mut self, key: &[u8], index: usize)
+        requires { ⌜ index < length (at (lists-of (rows-in (now self))) (now key)) ⌝ }
+        ensures long { λ _. ⌜ length (now (now (self .exit) .records)) ≡ length (now (now (self .entry) .records)) ⌝ }
+        ensures rows { λ _. ⌜ rows-in (now (self .exit)) ≡ removed (rows-in (now (self .entry))) (spot (now (key .entry)) index (rows-in (now (self .entry)))) ⌝ }
+        ensures lists { λ _. ⌜ lists-of (rows-in (now (self .exit))) ≡ put (lists-of (rows-in (now (self .entry)))) (now (key .entry)) (removed (at (lists-of (rows-in (now (self .entry)))) (now (key .entry))) index) ⌝ }
+    {
+        let i = self.position(key, index);
+        self.cut(i);
+    }
+}
+
 pub impl<'a> ListEnds for Flat<'a> as FlatEnds {
     ghost room = { λ s. length (now (s .records)) };
 
@@ -278,19 +360,18 @@ pub impl<'a> ListEnds for Flat<'a> as FlatEnds {
     }
 
     fn held(&self) -> usize {
-        self.used
+        self.elements_held()
     }
 
     fn len(&self, key: &[u8]) -> usize {
-        count(&self.records[0..self.used], key)
+        self.elements_of(key)
     }
 
     fn value_at(&self, key: &[u8], index: usize, out: &mut [u8; LONGEST_VALUE]) -> Option<usize> {
-        let i = self.position(key, index);
-        if i >= self.used {
+        if index >= self.len(key) {
             return None;
         }
-        Some(self.copy(i, out))
+        Some(self.copy_element(key, index, out))
     }
 
     fn push(&mut self, side: Side, key: &[u8], value: &[u8]) -> Result<(), Refusal>
@@ -304,12 +385,10 @@ pub impl<'a> ListEnds for Flat<'a> as FlatEnds {
         if value.len() > LONGEST_VALUE {
             return Err(Refusal::LongValue);
         }
-        if self.used == self.records.len() {
+        if self.elements_held() == self.records.len() {
             return Err(Refusal::Full);
         }
-        let at = end(side, self.used);
-        let it = Record::new(name, value);
-        self.add_at(at, it);
+        self.add_end(side, name, value);
         Ok(())
     }
 
@@ -322,18 +401,14 @@ pub impl<'a> ListEnds for Flat<'a> as FlatEnds {
         if n == 0 {
             return None;
         }
-        let i = self.position(key, end_index(side, n));
-        let len = self.copy(i, out);
-        self.cut(i);
+        let index = end_index(side, n);
+        let len = self.copy_element(key, index, out);
+        self.cut_element(key, index);
         Some(len)
     }
 
     fn key_at(&self, rank: usize, out: &mut [u8; LONGEST_KEY]) -> Option<usize> {
-        let Some(i) = self.ranked_at(rank) else {
-            return None;
-        };
-        let it = self.records[i];
-        Some(it.copy_key(out))
+        self.copy_ranked(rank, out)
     }
 }
 
@@ -349,11 +424,10 @@ pub impl<'a> WholeLists for Flat<'a> as FlatWhole {
         if value.len() > LONGEST_VALUE {
             return Err(Refusal::LongValue);
         }
-        let i = self.position(key, index);
-        if i >= self.used {
+        if index >= self.len(key) {
             return Err(Refusal::OutOfRange);
         }
-        self.write(i, Record::new(name, value));
+        self.write_element(name, index, value);
         Ok(())
     }
 
@@ -368,14 +442,13 @@ pub impl<'a> WholeLists for Flat<'a> as FlatWhole {
         if value.len() > LONGEST_VALUE {
             return Err(Refusal::LongValue);
         }
-        if self.used == self.records.len() {
+        if self.elements_held() == self.records.len() {
             return Err(Refusal::Full);
         }
         if index > self.len(key) {
             return Err(Refusal::OutOfRange);
         }
-        let i = self.position(key, index);
-        self.add_at(i, Record::new(name, value));
+        self.add_element(name, index, value);
         Ok(())
     }
 
@@ -387,11 +460,10 @@ pub impl<'a> WholeLists for Flat<'a> as FlatWhole {
         if key.len() > LONGEST_KEY {
             return Err(Refusal::LongKey);
         }
-        let i = self.position(key, index);
-        if i >= self.used {
+        if index >= self.len(key) {
             return Err(Refusal::OutOfRange);
         }
-        self.cut(i);
+        self.cut_element(key, index);
         Ok(())
     }
 }

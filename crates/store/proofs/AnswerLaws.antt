@@ -42,15 +42,6 @@ module _ (ls : Lists) (k : Key) (i : ℕ) (v : Value) where
   pub set-fits : length k ≤ longest-key → length v ≤ longest-value → i < length (at ls k) → set-answer ls k i v ≡ 0
   set-fits a b c = grind (arith, tells)
 
-  pub remove-long-key : longest-key < length k → remove-answer ls k i ≡ 1
-  remove-long-key a = grind (arith, tells)
-
-  pub remove-out-of-range : length k ≤ longest-key → length (at ls k) ≤ i → remove-answer ls k i ≡ 4
-  remove-out-of-range a c = grind (arith, tells)
-
-  pub remove-fits : length k ≤ longest-key → i < length (at ls k) → remove-answer ls k i ≡ 0
-  remove-fits a c = grind (arith, tells)
-
   module _ (room : ℕ) where
     pub insert-long-key : longest-key < length k → insert-answer room ls k i v ≡ 1
     insert-long-key a = grind (arith, tells)
@@ -66,6 +57,16 @@ module _ (ls : Lists) (k : Key) (i : ℕ) (v : Value) where
 
     pub insert-fits : length k ≤ longest-key → length v ≤ longest-value → held ls < room → i ≤ length (at ls k) → insert-answer room ls k i v ≡ 0
     insert-fits a b c d = grind (arith, tells)
+
+module _ (ls : Lists) (k : Key) (i : ℕ) where
+  pub remove-long-key : longest-key < length k → remove-answer ls k i ≡ 1
+  remove-long-key a = grind (arith, tells)
+
+  pub remove-out-of-range : length k ≤ longest-key → length (at ls k) ≤ i → remove-answer ls k i ≡ 4
+  remove-out-of-range a c = grind (arith, tells)
+
+  pub remove-fits : length k ≤ longest-key → i < length (at ls k) → remove-answer ls k i ≡ 0
+  remove-fits a c = grind (arith, tells)
 
 -- ---- what an answer leaves
 

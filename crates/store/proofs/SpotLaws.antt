@@ -1,23 +1,23 @@
 -- Where the row of a key's element stands, and what a change of the rows there does to the lists.
-use mathlib.Core.Path.{_≡_, refl, sym, ap, subst, _∙_}
+use mathlib.Core.Path.{_≡_, refl, sym, ap, _∙_}
 use mathlib.Core.List.{List, [], _∷_, _++_}
-use mathlib.Core.Bool.{Bool, true, false, cond, true≢false}
+use mathlib.Core.Bool.{Bool, true, false, cond}
 use mathlib.Core.Logic.{⊎-elim}
-use Prim.Native.Nat.{ℕ, zero, suc, _+_, _-_, _≤_, _<_}
+use Prim.Native.Nat.{ℕ, zero, suc, _≤_, _<_}
 use native.Mathlib.Omega.{arith}
 use native.Mathlib.Numerals.{add-one}
 use lib.ListN.{length, getD, take, drop, set}
 use Rattle.std.specs.Orderings.{isEq}
 use Rattle.std.specs.shelf.Lists.{inserted, removed}
-use Rattle.std.proofs.shelf.Lists.{append-nil, append-assoc, length-append, take-at, drop-at, take-append-drop, drop-more, drop-all, set-split, set-at}
+use Rattle.std.proofs.shelf.Lists.{append-assoc, length-append, take-at, drop-at, take-append-drop, drop-more, set-split, set-at}
 use Rattle.std.proofs.shelf.Tests.{cases-order}
 use Rattle.order.specs.Keys.{Key, key-order}
 use Rattle.store.specs.declared.Side.{Side}
 use Rattle.store.specs.declared.Side.the-variants.{Left, Right}
-use Rattle.store.specs.Answers.{place, rest}
+use Rattle.store.specs.Answers.{place}
 use Rattle.store.specs.Lists.{Value, Lists, at, put}
 use Rattle.store.specs.Rows.{Row, values-of, lists-of, spot, onward}
-use Rattle.store.proofs.ListLaws.{same-decides, order-same}
+use Rattle.store.proofs.ListLaws.{same-decides}
 use Rattle.store.proofs.RowLaws.{at-rows, values-append, values-mid, values-other, rows-put, rows-cut}
 
 -- ---- where it stands
@@ -74,18 +74,6 @@ spot-few k i (p ∷ ps) = go (λ j. spot-few k j ps) (isEq (key-order k (p .0)))
     go ih true (suc j) = omega (arith, ih j)
     go ih false j = omega (arith, ih j)
 
--- a row of k with i others of k before it stands at the spot
-pub spot-from : (k : Key) (i n : ℕ) (ps : List Row) (d : Row) → n < length ps → length (values-of k (take n ps)) ≡ i → getD ps n d .0 ≡ k → (i < length (values-of k ps)) × (n ≡ spot k i ps)
-unfolding values-of spot
-spot-from k i n [] d l h q = absurd (omega arith)
-spot-from k i zero (p ∷ ps) d l h q = subst (λ (b : Bool). (i < length (cond b (p .1 ∷ values-of k ps) (values-of k ps))) × (zero ≡ cond b (onward i (λ m. spot k m ps)) (suc (spot k i ps)))) (sym (order-same k (p .0) (sym q))) (omega arith, ap (λ j. onward j (λ m. spot k m ps)) h)
-spot-from k i (suc n) (p ∷ ps) d l h q = go (λ j g. spot-from k j n ps d (omega arith) g q) (isEq (key-order k (p .0))) refl i h
-  where
-    go : ((j : ℕ) → length (values-of k (take n ps)) ≡ j → (j < length (values-of k ps)) × (n ≡ spot k j ps)) → (b : Bool) → isEq (key-order k (p .0)) ≡ b → (j : ℕ) → length (cond b (p .1 ∷ values-of k (take n ps)) (values-of k (take n ps))) ≡ j → (j < length (cond b (p .1 ∷ values-of k ps) (values-of k ps))) × (suc n ≡ cond b (onward j (λ m. spot k m ps)) (suc (spot k j ps)))
-    go ih true e zero g = absurd (omega arith)
-    go ih true e (suc j) g = let r = ih j (omega arith) in (omega (arith, r .0), ap suc (r .1))
-    go ih false e j g = let r = ih j g in (r .0, ap suc (r .1))
-
 -- ---- lists about an element
 
 cut-at : (xs ys : List Value) (v : Value) (i : ℕ) → length xs ≡ i → removed (xs ++ v ∷ ys) i ≡ xs ++ ys
@@ -96,11 +84,6 @@ cut-at xs ys v i e = λ j. take-at xs (v ∷ ys) i e j ++ past j
 
 add-at : (xs ys : List Value) (v : Value) (i : ℕ) → length xs ≡ i → inserted (xs ++ ys) i v ≡ xs ++ v ∷ ys
 add-at xs ys v i e = λ j. take-at xs ys i e j ++ v ∷ drop-at xs ys i e j
-
-pub rest-is : (s : Side) (vs : List Value) → 0 < length vs → rest s vs ≡ removed vs (place s (length vs))
-rest-is Left [] l = absurd (omega arith)
-rest-is Left (v ∷ vs) l = refl
-rest-is Right vs l = sym (ap (λ t. take (length vs - 1) vs ++ t) (drop-all (suc (length vs - 1)) vs (omega arith)) ∙ append-nil (take (length vs - 1) vs))
 
 pub place-within : (s : Side) (n : ℕ) → 0 < n → place s n < n
 place-within Left n l = l

@@ -4,7 +4,7 @@ use mathlib.Core.List.{List, [], _∷_, _++_}
 use mathlib.Core.Bool.{Bool, cond}
 use Prim.Native.Nat.{ℕ, _-_, _≤_, _<_}
 use lib.Dec.{eqb, leb, ltb}
-use lib.ListN.{length, getD, take, drop, set}
+use lib.ListN.{length, getD, drop, set}
 use Rattle.std.specs.shelf.Lists.{inserted, removed}
 use Rattle.std.specs.declared.option.Option.{Option}
 use Rattle.std.specs.declared.option.Option.the-variants.{Some, None}
@@ -61,11 +61,6 @@ abbrev pub place : Side → ℕ → ℕ
 place Left n = 0
 place Right n = n - 1
 
--- the list without the value on a side
-abbrev pub rest : Side → List Value → List Value
-rest Left vs = drop 1 vs
-rest Right vs = take (length vs - 1) vs
-
 -- bytes in front, and behind them what was there
 abbrev pub over : List ℕ → List ℕ → List ℕ
 over out bytes = bytes ++ drop (length bytes) out
@@ -78,9 +73,10 @@ Copied most items i out out′ (Some n) = (i < length items) × (n ≤ most) × 
 abbrev pub Pushed : {U : Type 0} → ℕ → Lists → Lists → Side → Key → Value → Result U Refusal → Type 0
 Pushed room ls ls′ s k v r = Done (push-answer room ls k v) (put ls k (joined s (at ls k) v)) ls ls′ r
 
+-- the value on a side is copied and taken out, or the list is empty
 abbrev pub Popped : Lists → Lists → Side → Key → List ℕ → List ℕ → Option ℕ → Type 0
-Popped ls ls′ s k out out′ None = (at ls k ≡ []) × (ls′ ≡ ls) × (out′ ≡ out)
-Popped ls ls′ s k out out′ (Some n) = Copied longest-value (at ls k) (place s (length (at ls k))) out out′ (Some n) × (ls′ ≡ put ls k (rest s (at ls k)))
+Popped ls ls′ s k out out′ None = (length (at ls k) ≡ 0) × (ls′ ≡ ls) × (out′ ≡ out)
+Popped ls ls′ s k out out′ (Some n) = Copied longest-value (at ls k) (place s (length (at ls k))) out out′ (Some n) × (ls′ ≡ put ls k (removed (at ls k) (place s (length (at ls k)))))
 
 -- ---- whole lists
 

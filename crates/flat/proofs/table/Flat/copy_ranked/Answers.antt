@@ -2,7 +2,7 @@ use native.Mathlib.Omega.{arith}
 use borrow.Author.Needs.{needs}
 use Rattle.std.proofs.shelf.Lists.{getD-default}
 use Rattle.flat.proofs.Tables.{ranked-within, key-there}
-use Rattle.flat.proofs.FlatEnds.key_at.Needs as need
+use Rattle.flat.proofs.table.Flat.copy_ranked.Needs as need
 
 pub offset-self-i : need.offset-self-i
 offset-self-i c = let l = ranked-within (c .args .self .now) (c .args .rank) (c .in-Some .i) (c .in-Some .ensures tt) in search needs
