@@ -1,5 +1,6 @@
 // A list store over one table of records that the host lends: a key's list is its records in the table's order.
 ghost use mathlib.Core.Path.{_≡_};
+ghost use mathlib.Core.Bool.{false};
 ghost use mathlib.Core.List.{List, [], _∷_, _++_};
 ghost use Prim.Native.Nat.{ℕ, _+_, _<_, _≤_};
 ghost use lib.ListN.{length, getD};
@@ -275,6 +276,13 @@ impl<'a> Flat<'a> {
         self.used
     }
 
+    fn is_full(&self) -> bool
+        ensures test { λ r. ⌜ Decides r (elements (lists-of (rows-in (now (self .entry)))) ≡ length (now (now (self .entry) .records))) ⌝ }
+        ensures room { λ r. ⌜ (r ≡ false → now (self .entry) .used < length (now (now (self .entry) .records))) ⌝ }
+    {
+        self.elements_held() == self.records.len()
+    }
+
     fn elements_of(&self, key: &[u8]) -> usize
         ensures { λ r. ⌜ r ≡ length (at (lists-of (rows-in (now (self .entry)))) (now (key .entry))) ⌝ }
     {
@@ -385,7 +393,7 @@ pub impl<'a> ListEnds for Flat<'a> as FlatEnds {
         if value.len() > LONGEST_VALUE {
             return Err(Refusal::LongValue);
         }
-        if self.elements_held() == self.records.len() {
+        if self.is_full() {
             return Err(Refusal::Full);
         }
         self.add_end(side, name, value);
@@ -401,9 +409,9 @@ pub impl<'a> ListEnds for Flat<'a> as FlatEnds {
         if n == 0 {
             return None;
         }
-        let index = end_index(side, n);
-        let len = self.copy_element(key, index, out);
-        self.cut_element(key, index);
+        let at = end_index(side, n);
+        let len = self.copy_element(key, at, out);
+        self.cut_element(key, at);
         Some(len)
     }
 
@@ -442,7 +450,7 @@ pub impl<'a> WholeLists for Flat<'a> as FlatWhole {
         if value.len() > LONGEST_VALUE {
             return Err(Refusal::LongValue);
         }
-        if self.elements_held() == self.records.len() {
+        if self.is_full() {
             return Err(Refusal::Full);
         }
         if index > self.len(key) {

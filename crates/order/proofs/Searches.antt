@@ -10,10 +10,10 @@ use Rattle.std.specs.declared.cmp.Ordering.{Ordering}
 use Rattle.std.specs.declared.cmp.Ordering.the-variants.{Less, Equal, Greater}
 use Rattle.std.specs.declared.option.Option.{Option}
 use Rattle.std.specs.declared.option.Option.the-variants.{Some, None}
-use Rattle.std.specs.Options.{Cases}
+use Rattle.std.specs.Options.{Cases, mapped}
 use Rattle.std.specs.Orderings.{isLt, reversed}
 use Rattle.std.proofs.shelf.Tests.{cases-eq}
-use Rattle.order.specs.Orders.{Lawful, Minimal, FirstLeast, Beats}
+use Rattle.order.specs.Orders.{Lawful, Minimal, FirstLeast, Beats, After}
 
 module _ {V : Type 0} (order : V → V → Ordering) (lawful : Lawful order) where
   pub not-itself : (a : V) → order a a ≡ Less → ⊥
@@ -57,11 +57,12 @@ within-more None n m l h = tt
 within-more (Some b) n m l h = omega arith
 
 -- where all are looked at, only an empty slice has no least
-pub least-of-all : {X V : Type 0} (order : V → V → Ordering) (reads : X → V) (xs : List X) (r : Option ℕ) → ((d : X) → FirstLeast order (λ _. Unit {0}) (length xs) (λ j. reads (getD xs j d)) r) → Cases r (Unit {0}) (λ i. i < length xs) → Cases r (length xs ≡ 0) (λ i. i < length xs)
-least-of-all order reads [] None f h = refl
-least-of-all order reads (x ∷ xs) None f h = absurd (f x 0 (omega arith) tt)
-least-of-all order reads xs (Some i) f h = h
+pub least-within : {X V : Type 0} (order : V → V → Ordering) (reads : X → V) (xs : List X) (from r : Option ℕ) → ((d : X) → FirstLeast order (After order (mapped (λ b. reads (getD xs b d)) from)) (length xs) (λ j. reads (getD xs j d)) r) → Cases r (Unit {0}) (λ i. i < length xs) → from ≡ None → Cases r (length xs ≡ 0) (λ i. i < length xs)
+least-within order reads [] from None f h e = refl
+least-within order reads (x ∷ xs) None None f h e = absurd (f x 0 (omega arith) tt)
+least-within order reads (x ∷ xs) (Some b) None f h e = let z : _≡_ {A = ℕ} 0 1 = cc in absurd (omega arith)
+least-within order reads xs from (Some i) f h e = h
 
-pub within-both : (r : Option ℕ) (from n : ℕ) → from < n → Cases r (Unit {0}) (λ i. i < n) → Cases r (Unit {0}) (λ i. (from < n) × (i < n))
-within-both None from n l h = tt
-within-both (Some i) from n l h = (l, h)
+pub within-both : (r : Option ℕ) (n : ℕ) (Q : Type 0) → Q → Cases r (Unit {0}) (λ i. i < n) → Cases r (Unit {0}) (λ i. (i < n) × Q)
+within-both None n Q q h = tt
+within-both (Some i) n Q q h = (h, q)

@@ -65,7 +65,8 @@ fn beats<T: TotalOrder>(items: &[T], best: Option<usize>, i: usize) -> bool
 // The first least of the items that come after the one at `from`, or of all.
 fn search<T: TotalOrder>(items: &[T], from: Option<usize>) -> Option<usize>
     requires { ⌜ Cases from (Unit {0}) (λ b. b < length (now items)) ⌝ }
-    ensures within { λ r. ⌜ Cases r (Unit {0}) (λ i. i < length (now (items .entry))) ⌝ }
+    ensures within { λ r. ⌜ Cases r (Unit {0}) (λ i. (i < length (now (items .entry))) × Cases from (Unit {0}) (λ b. b < length (now (items .entry)))) ⌝ }
+    ensures all { λ r. ⌜ (from ≡ None → Cases r (length (now (items .entry)) ≡ 0) (λ i. i < length (now (items .entry)))) ⌝ }
     ensures first { λ r. ⌜ ((d : T) → FirstLeast order (After order (mapped (λ b. reads (getD (now (items .entry)) b d)) from)) (length (now (items .entry))) (λ j. reads (getD (now (items .entry)) j d)) r) ⌝ }
 {
     let mut best = None;
@@ -89,13 +90,19 @@ pub fn least<T: TotalOrder>(items: &[T]) -> Option<usize>
 
 // The same of the items that come after the one at `from`; none where there is no such item.
 pub fn least_after<T: TotalOrder>(items: &[T], from: usize) -> Option<usize>
-    ensures within { λ r. ⌜ Cases r (Unit {0}) (λ i. (from < length (now (items .entry))) × (i < length (now (items .entry)))) ⌝ }
-    ensures first { λ r. ⌜ ((d : T) → from < length (now (items .entry)) → FirstLeast order (λ v. order (reads (getD (now (items .entry)) from d)) v ≡ Less) (length (now (items .entry))) (λ j. reads (getD (now (items .entry)) j d)) r) ⌝ }
+    ensures within { λ r. ⌜ Cases r (Unit {0}) (λ i. (i < length (now (items .entry))) × (from < length (now (items .entry)))) ⌝ }
+    ensures first { λ r. ⌜ ((d : T) → from < length (now (items .entry)) → FirstLeast order (After order (Some (reads (getD (now (items .entry)) from d)))) (length (now (items .entry))) (λ j. reads (getD (now (items .entry)) j d)) r) ⌝ }
 {
     if from >= items.len() {
         return None;
     }
     search(items, Some(from))
+}
+
+fn compare_keys(a: &[u8], b: &[u8]) -> Ordering
+    ensures { λ r. ⌜ r ≡ key-order (now (a .entry)) (now (b .entry)) ⌝ }
+{
+    a.cmp(&b)
 }
 
 // A key as a plain row of a table: how many of the bytes are its own, and the bytes. Any row is a key, since a length past the longest reads as the longest.
@@ -140,6 +147,6 @@ pub impl TotalOrder for KeyRow as KeyRowOrder {
     ghost order = { key-order };
 
     fn compare(&self, other: &Self) -> Ordering {
-        self.as_bytes().cmp(&other.as_bytes())
+        compare_keys(self.as_bytes(), other.as_bytes())
     }
 }

@@ -6,7 +6,7 @@ use lib.ListN.{length, getD}
 use Rattle.std.specs.declared.option.Option.{Option}
 use Rattle.std.specs.Options.{mapped, Cases}
 use Rattle.order.specs.Orders.{After, FirstLeast}
-use Rattle.order.proofs.Searches.{least-better, least-same, within-more}
+use Rattle.order.proofs.Searches.{least-better, least-same, within-more, within-both, least-within}
 use Rattle.order.proofs.search.Needs as need
 use Rattle.order.proofs.search.Needs.{then-is-after·then-beats, then-is-after·else-beats, else-is-after}
 
@@ -40,7 +40,10 @@ returns g c =
     let order = g .T·TotalOrder .order in
     let at = λ (d : g .T .Denot) (j : ℕ). g .T·TotalOrder .reads (getD (c .args .items .now) j d) in
     let n : c .loop-i .i ≡ length (c .args .items .now) = omega arith in
+    let f = λ (d : g .T .Denot). subst (λ (m : ℕ). FirstLeast order (After order (mapped (at d) (c .args .from))) m (at d) (c .loop-i .best)) n (c .loop-i .inv .1 d) in
+    let w = subst (λ (m : ℕ). Cases (c .loop-i .best) (Unit {0}) (λ b. b < m)) n (c .loop-i .inv .0) in
     record {
-      within = subst (λ (m : ℕ). Cases (c .loop-i .best) (Unit {0}) (λ b. b < m)) n (c .loop-i .inv .0);
-      first = λ d. subst (λ (m : ℕ). FirstLeast order (After order (mapped (at d) (c .args .from))) m (at d) (c .loop-i .best)) n (c .loop-i .inv .1 d);
+      within = within-both (c .loop-i .best) (length (c .args .items .now)) _ (c .pre) w;
+      all = least-within order (g .T·TotalOrder .reads) (c .args .items .now) (c .args .from) (c .loop-i .best) f w;
+      first = f;
     }
