@@ -280,7 +280,8 @@ impl<'a> Flat<'a> {
         ensures test { λ r. ⌜ Decides r (elements (lists-of (rows-in (now (self .entry)))) ≡ length (now (now (self .entry) .records))) ⌝ }
         ensures room { λ r. ⌜ (r ≡ false → now (self .entry) .used < length (now (now (self .entry) .records))) ⌝ }
     {
-        self.elements_held() == self.records.len()
+        let held = self.elements_held();
+        held == self.records.len()
     }
 
     fn elements_of(&self, key: &[u8]) -> usize
