@@ -1,6 +1,6 @@
 -- What a loop over the records knows of the rows before and after it.
-use mathlib.Core.Path.{_≡_, refl, sym, ap, subst, _∙_}
-use mathlib.Core.List.{List, [], _∷_}
+use mathlib.Core.Path.{_≡_, sym, ap, _∙_}
+use mathlib.Core.List.{List, _∷_}
 use mathlib.Core.Bool.{Bool, true, false, cond}
 use Prim.Native.Nat.{ℕ, zero, suc, _+_, _-_, _≤_, _<_}
 use native.Mathlib.Omega.{arith}
@@ -9,10 +9,10 @@ use Rattle.std.specs.Orderings.{isEq, Decides}
 use Rattle.std.proofs.shelf.Lists.{drop-more, drop-all}
 use Rattle.std.proofs.shelf.Ways.{same-from-decides}
 use Rattle.order.specs.Keys.{Key, key-order}
-use Rattle.store.specs.Rows.{Row, values-of, spot, onward}
+use Rattle.store.specs.Rows.{values-of, spot, onward}
 use Rattle.store.proofs.ListLaws.{same-decides}
 use Rattle.flat.specs.declared.table.Record.{Record}
-use Rattle.flat.specs.Records.{key-of, value-of, row, rows}
+use Rattle.flat.specs.Records.{key-of, value-of, rows}
 
 module _ (k : Key) (rs : List Record) (i : ℕ) (r : Record) (b : Bool) (l : i < length rs) (e : r ≡ getD rs i r) (h : Decides b (k ≡ key-of r)) where
   next : drop i rs ≡ r ∷ drop (i + 1) rs

@@ -1,10 +1,9 @@
 -- What the loops that move records leave.
-use mathlib.Core.Path.{_≡_, refl, sym, ap, subst, _∙_}
-use mathlib.Core.List.{List, [], _∷_, _++_, map}
-use mathlib.Core.Logic.{_≢_, _⊎_, inl, inr, ⊎-elim}
-use Prim.Native.Nat.{ℕ, zero, suc, _+_, _-_, _≤_, _<_}
+use mathlib.Core.Path.{_≡_, refl, sym, ap, _∙_}
+use mathlib.Core.List.{List, _∷_, _++_, map}
+use mathlib.Core.Logic.{_⊎_, inl, inr, ⊎-elim}
+use Prim.Native.Nat.{ℕ, suc, _+_, _-_, _≤_, _<_}
 use native.Mathlib.Omega.{arith}
-use native.Mathlib.Numerals.{add-one}
 use lib.ListN.{length, getD, take, drop, set}
 use Rattle.std.specs.shelf.Lists.{removed, inserted}
 use Rattle.std.proofs.shelf.Lists.{length-set, length-take, length-take-le, take-append-drop, set-append-left, take-at, take-all, drop-all, append-nil, getD-take, getD-set-other, getD-set-same, getD-default, same-lists, map-append, take-map, drop-map}
@@ -32,22 +31,6 @@ pub record Closed {X : Type 0} (xs cur : List X) (at n i : ℕ) : Type 0 where
   pub back : (k : ℕ) (d : X) → i < k → getD cur k d ≡ getD xs k d
 
 module _ {X : Type 0} (xs : List X) where
-  pub opened-none : (n : ℕ) → Opened xs xs n n
-  opened-none n = record { low = omega arith; long = refl; front = λ k d h. refl; back = λ k d h l. absurd (omega arith) }
-
-  pub opened-more : (cur : List X) (n i : ℕ) (r : X) → n < length xs → 0 < i → Opened xs cur n i → r ≡ getD cur (i - 1) r → Opened xs (set cur i r) n (i - 1)
-  opened-more cur n i r l p o e =
-      let w : i < length cur = omega (arith, o .low, o .long) in
-      record {
-        low = omega (arith, o .low);
-        long = length-set cur i r ∙ o .long;
-        front = λ k d h. getD-set-other cur i k r d (omega arith) ∙ o .front k d (omega arith);
-        back = λ k d h m. ⊎-elim
-            (λ q. here cur i (k + 1) r d (omega arith) w ∙ e ∙ o .front (i - 1) r (omega arith) ∙ getD-default xs (i - 1) r d (omega (arith, o .low)) ∙ ap (λ j. getD xs j d) (sym q))
-            (λ q. getD-set-other cur i (k + 1) r d (omega arith) ∙ o .back k d (omega arith) m)
-            (cases-eq k (i - 1));
-      }
-
   pub opened-all : (cur : List X) (at n i : ℕ) (it : X) → n < length xs → at ≤ n → i ≡ at → Opened xs cur n i → take (n + 1) (set cur at it) ≡ inserted (take n xs) at it
   opened-all cur at n i it l b z o =
       let t = length-take-le n xs (omega arith) in

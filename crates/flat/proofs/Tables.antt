@@ -1,23 +1,23 @@
--- A flat store by its rows: how many they are, what stands at a spot, and what a push or a pop makes of the lists.
-use mathlib.Core.Path.{_≡_, refl, sym, ap, subst, _∙_}
-use mathlib.Core.List.{List, [], _∷_, _++_, map}
+-- A flat store by its rows: how many they are, what stands at a spot, and what a change of the rows makes of the lists.
+use mathlib.Core.Path.{_≡_, refl, sym, ap, _∙_}
+use mathlib.Core.List.{List, [], _∷_, _++_}
 use Prim.Native.Nat.{ℕ, _+_, _-_, _≤_, _<_}
 use native.Mathlib.Omega.{arith}
-use lib.ListN.{length, getD, take, drop, set}
+use lib.ListN.{length, getD, take, set}
 use denote.Ref.{now}
 use Rattle.std.specs.shelf.Lists.{inserted, removed}
 use Rattle.std.specs.declared.option.Option.the-variants.{Some}
-use Rattle.std.proofs.shelf.Lists.{length-map, length-take-le, getD-map, getD-take, take-all, drop-all, nil-from-length}
+use Rattle.std.proofs.shelf.Lists.{length-map, length-take-le, getD-map, getD-take, take-all, drop-all}
 use Rattle.order.specs.Keys.{Key, longest-key}
 use Rattle.store.specs.declared.Side.{Side}
 use Rattle.store.specs.declared.Side.the-variants.{Left, Right}
 use Rattle.store.specs.Limits.{longest-value}
-use Rattle.store.specs.Answers.{joined, place, over, Copied, Popped}
-use Rattle.store.specs.Lists.{Value, Lists, at, put, keys-of}
+use Rattle.store.specs.Answers.{joined, over, Copied}
+use Rattle.store.specs.Lists.{Value, at, put, keys-of}
 use Rattle.store.specs.Lists.{held as elements}
 use Rattle.store.specs.Rows.{Row, values-of, lists-of, spot, AtRank}
 use Rattle.store.proofs.RowLaws.{at-rows, held-rows, rows-left, rows-right}
-use Rattle.store.proofs.SpotLaws.{spot-row, spot-some, spot-few, place-within, rows-removed, rows-set, rows-inserted}
+use Rattle.store.proofs.SpotLaws.{spot-row, spot-some, spot-few, rows-removed, rows-set, rows-inserted}
 use Rattle.flat.specs.declared.table.Record.{Record}
 use Rattle.flat.specs.declared.table.Flat.{Flat}
 use Rattle.flat.specs.Records.{key-of, value-of, row, rows, rows-in}

@@ -1,13 +1,11 @@
 -- A record as a row, and a flat store as the rows of the records in use.
 use mathlib.Core.List.{List, [], _∷_, map}
-use Prim.Native.Nat.{ℕ, _≤_}
 use native.Mathlib.Omega.{arith}
 use lib.ListN.{length, take, length-take}
 use denote.Ref.{now}
 use Rattle.std.specs.shelf.Lists.{All}
 use Rattle.std.proofs.shelf.Lists.{length-map}
 use Rattle.order.specs.Keys.{Key, key-in}
-use Rattle.store.specs.Limits.{largest-store}
 use Rattle.store.specs.Lists.{Value, StoreLaws}
 use Rattle.store.specs.Rows.{Row, Short, lists-of}
 use Rattle.store.proofs.RowLaws.{rows-laws}

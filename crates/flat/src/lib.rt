@@ -1,9 +1,9 @@
 // A list store over one table of records that the host lends: a key's list is its records in the table's order.
 ghost use mathlib.Core.Path.{_≡_};
 ghost use mathlib.Core.Bool.{false};
-ghost use mathlib.Core.List.{List, [], _∷_, _++_};
-ghost use Prim.Native.Nat.{ℕ, _+_, _<_, _≤_};
-ghost use lib.ListN.{length, getD};
+ghost use mathlib.Core.List.{[]};
+ghost use Prim.Native.Nat.{_+_, _<_, _≤_};
+ghost use lib.ListN.{length};
 ghost use lib.ListN.{set as changed};
 ghost use denote.Ref.{now};
 ghost use Rattle.std.specs.Orderings.{Decides};

@@ -1,5 +1,5 @@
 // The table of a flat store: records that the host lends, those in use in front.
-ghost use Prim.Native.Nat.{ℕ, _≤_};
+ghost use Prim.Native.Nat.{_≤_};
 ghost use lib.ListN.{length};
 ghost use denote.Ref.{now};
 ghost use Rattle.store.specs.Limits.{longest-value, largest-store};

@@ -1,6 +1,6 @@
 // Total orders, and the search for the least of a slice, for every type that has one.
 ghost use mathlib.Core.Path.{_≡_};
-ghost use Prim.Native.Nat.{ℕ, _<_, _≤_};
+ghost use Prim.Native.Nat.{_<_, _≤_};
 ghost use lib.ListN.{length, getD};
 ghost use denote.Ref.{now};
 ghost use Rattle.std.specs.declared.cmp.Ordering.{Ordering as Rank};

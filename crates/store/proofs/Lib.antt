@@ -2,4 +2,3 @@ pub mod ListLaws
 pub mod RowLaws
 pub mod RankLaws
 pub mod SpotLaws
-pub mod AnswerLaws

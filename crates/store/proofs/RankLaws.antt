@@ -1,20 +1,19 @@
 -- The keys of a store by rank, and how the search for the least key above another finds them in rows.
-use mathlib.Core.Path.{_≡_, refl, sym, ap, subst, _∙_}
-use mathlib.Core.List.{List, [], _∷_, map}
+use mathlib.Core.Path.{_≡_, refl, sym, ap, _∙_}
+use mathlib.Core.List.{List, [], _∷_}
 use mathlib.Core.Logic.{_⊎_, inl, inr, ⊎-elim}
 use mathlib.Core.Bool.{Bool, true, false, cond, true≢false}
 use Prim.Native.Nat.{ℕ, zero, suc, _+_, _≤_, _<_}
 use native.Mathlib.Omega.{arith}
 use lib.ListN.{length, getD}
-use Rattle.std.specs.declared.cmp.Ordering.{Ordering}
-use Rattle.std.specs.declared.cmp.Ordering.the-variants.{Less, Equal, Greater}
+use Rattle.std.specs.declared.cmp.Ordering.the-variants.{Less, Greater}
 use Rattle.std.specs.declared.option.Option.{Option}
 use Rattle.std.specs.declared.option.Option.the-variants.{Some, None}
 use Rattle.std.specs.Orderings.{isEq, isGt}
 use Rattle.std.proofs.shelf.Tests.{cases-eq, cases-order}
 use Rattle.order.specs.Keys.{Key, key-order}
 use Rattle.order.specs.Orders.{FirstLeast}
-use Rattle.store.specs.Lists.{Value, Lists, at, Above, Canonical, keys-of}
+use Rattle.store.specs.Lists.{Lists, at, Above, Canonical, keys-of}
 use Rattle.store.specs.Rows.{Row, values-of, lists-of, names, AtRank}
 use Rattle.store.proofs.ListLaws.{order-same, same-decides, below-apart, order-back}
 use Rattle.store.proofs.RowLaws.{canonical-rows, at-rows}
@@ -53,7 +52,7 @@ row-filled (p ∷ ps) (suc j) l = go (row-filled ps j (omega arith)) (isEq (key-
     go h true = omega arith
     go h false = h
 
-found-key : (q : Key) (es : Lists) → 0 < length (at es q) → (m : ℕ) × (m < length (keys-of es)) × (getD (keys-of es) m [] ≡ q)
+pub found-key : (q : Key) (es : Lists) → 0 < length (at es q) → (m : ℕ) × (m < length (keys-of es)) × (getD (keys-of es) m [] ≡ q)
 unfolding at
 found-key q [] h = absurd (omega arith)
 found-key q (e ∷ es) h = go (found-key q es) (isEq (key-order q (e .0))) refl h
@@ -62,7 +61,7 @@ found-key q (e ∷ es) h = go (found-key q es) (isEq (key-order q (e .0))) refl 
     go ih true t l = (zero, omega arith, sym (same-decides q (e .0) .0 t))
     go ih false t l = let r = ih l in (suc (r .0), omega (arith, r .1), r .2)
 
-key-filled : (es : Lists) (m : ℕ) → Canonical es → m < length (keys-of es) → 0 < length (at es (getD (keys-of es) m []))
+pub key-filled : (es : Lists) (m : ℕ) → Canonical es → m < length (keys-of es) → 0 < length (at es (getD (keys-of es) m []))
 unfolding at Canonical
 key-filled [] m c l = absurd (omega arith)
 key-filled (e ∷ es) zero c l = let t = ap (λ b. length (cond b (e .1) (at es (e .0)))) (order-same (e .0) (e .0) refl) in omega (arith, c .0)

@@ -4,13 +4,13 @@ use mathlib.Core.List.{List, [], _∷_, _++_}
 use mathlib.Core.Bool.{Bool, true, false, cond, true≢false}
 use Prim.Native.Nat.{ℕ, zero, suc, _+_, _≤_, _<_}
 use native.Mathlib.Omega.{arith}
-use lib.ListN.{length, getD, take, drop}
+use lib.ListN.{length, getD}
 use Rattle.std.specs.Orderings.{isEq}
 use Rattle.std.specs.shelf.Lists.{All}
-use Rattle.std.proofs.shelf.Lists.{append-nil, length-append, getD-at, take-at, drop-at}
+use Rattle.std.proofs.shelf.Lists.{append-nil}
 use Rattle.order.specs.Keys.{Key, key-order, longest-key}
 use Rattle.store.specs.Limits.{longest-value, largest-store}
-use Rattle.store.specs.Lists.{Value, Lists, StoreLaws, at, put, held, Canonical}
+use Rattle.store.specs.Lists.{Value, StoreLaws, at, put, held, Canonical}
 use Rattle.store.specs.Rows.{Row, Short, values-of, lists-of}
 use Rattle.store.proofs.ListLaws.{at-put-same, at-put-other, canonical-put, held-put, order-same, order-apart, same-decides, put-from-at}
 

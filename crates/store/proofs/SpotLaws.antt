@@ -12,10 +12,7 @@ use Rattle.std.specs.shelf.Lists.{inserted, removed}
 use Rattle.std.proofs.shelf.Lists.{append-assoc, length-append, take-at, drop-at, take-append-drop, drop-more, set-split, set-at}
 use Rattle.std.proofs.shelf.Tests.{cases-order}
 use Rattle.order.specs.Keys.{Key, key-order}
-use Rattle.store.specs.declared.Side.{Side}
-use Rattle.store.specs.declared.Side.the-variants.{Left, Right}
-use Rattle.store.specs.Answers.{place}
-use Rattle.store.specs.Lists.{Value, Lists, at, put}
+use Rattle.store.specs.Lists.{Value, at, put}
 use Rattle.store.specs.Rows.{Row, values-of, lists-of, spot, onward}
 use Rattle.store.proofs.ListLaws.{same-decides}
 use Rattle.store.proofs.RowLaws.{at-rows, values-append, values-mid, values-other, rows-put, rows-cut}
@@ -57,12 +54,9 @@ spot-past k i (p ∷ ps) l = go (λ j. spot-past k j ps) (isEq (key-order k (p .
     go ih true (suc j) h = ap suc (ih j (omega arith))
     go ih false j h = ap suc (ih j h)
 
--- a spot within the rows, and one past them
+-- a spot within the rows
 pub spot-some : (k : Key) (i : ℕ) (ps : List Row) → spot k i ps < length ps → i < length (values-of k ps)
 spot-some k i ps h = ⊎-elim (λ e. absurd (omega (arith, spot-past k i ps (omega arith)))) (⊎-elim (λ e. e) (λ e. absurd (omega (arith, spot-past k i ps (omega arith))))) (cases-order i (length (values-of k ps)))
-
-pub spot-none : (k : Key) (i : ℕ) (ps : List Row) → length ps ≤ spot k i ps → length (values-of k ps) ≤ i
-spot-none k i ps h = ⊎-elim (λ e. omega arith) (⊎-elim (λ e. absurd (omega (arith, spot-row k i ps e (k, []) .0))) (λ e. omega arith)) (cases-order i (length (values-of k ps)))
 
 pub spot-few : (k : Key) (i : ℕ) (ps : List Row) → spot k i ps ≤ length ps
 unfolding spot
@@ -84,10 +78,6 @@ cut-at xs ys v i e = λ j. take-at xs (v ∷ ys) i e j ++ past j
 
 add-at : (xs ys : List Value) (v : Value) (i : ℕ) → length xs ≡ i → inserted (xs ++ ys) i v ≡ xs ++ v ∷ ys
 add-at xs ys v i e = λ j. take-at xs ys i e j ++ v ∷ drop-at xs ys i e j
-
-pub place-within : (s : Side) (n : ℕ) → 0 < n → place s n < n
-place-within Left n l = l
-place-within Right n l = omega arith
 
 -- ---- the rows about a spot
 

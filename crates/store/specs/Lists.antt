@@ -4,8 +4,7 @@ use mathlib.Core.List.{List, [], _∷_, map}
 use mathlib.Core.Bool.{cond}
 use Prim.Native.Nat.{ℕ, _+_, _≤_, _<_}
 use lib.ListN.{length, getD}
-use Rattle.std.specs.declared.cmp.Ordering.{Ordering}
-use Rattle.std.specs.declared.cmp.Ordering.the-variants.{Less, Equal, Greater}
+use Rattle.std.specs.declared.cmp.Ordering.the-variants.{Less}
 use Rattle.std.specs.Orderings.{isEq}
 use Rattle.std.specs.shelf.Lookups.{by-order}
 use Rattle.order.specs.Keys.{Key, key-order, longest-key}
@@ -59,3 +58,20 @@ pub record StoreLaws (room : ℕ) (ls : Lists) : Type 0 where
   pub canonical : Canonical ls
   pub keys : (k : Key) → longest-key < length k → at ls k ≡ []
   pub values : (k : Key) (i : ℕ) → length (getD (at ls k) i []) ≤ longest-value
+
+-- what can be relied on of `Lists` without a look at the definitions
+pub record ListLaws : Type 0 where
+  -- a look-up after a change
+  pub same : (ls : Lists) (k : Key) (vs : List Value) → Canonical ls → at (put ls k vs) k ≡ vs
+  pub other : (ls : Lists) (k q : Key) (vs : List Value) → (q ≡ k → ⊥) → at (put ls k vs) q ≡ at ls q
+  pub keeps : (ls : Lists) (k : Key) (vs : List Value) → Canonical ls → Canonical (put ls k vs)
+  pub again : (ls : Lists) (k : Key) (vs ws : List Value) → Canonical ls → put (put ls k vs) k ws ≡ put ls k ws
+  pub back : (ls : Lists) (k : Key) → Canonical ls → put ls k (at ls k) ≡ ls
+  -- how many elements a change leaves
+  pub counts : (ls : Lists) (k : Key) (vs : List Value) → Canonical ls → held (put ls k vs) + length (at ls k) ≡ held ls + length vs
+  -- equal look-ups are equal lists
+  pub equal : (ls ms : Lists) → Canonical ls → Canonical ms → ((k : Key) → at ls k ≡ at ms k) → ls ≡ ms
+  -- the keys by rank ascend, and are just those with an element
+  pub ascend : (ls : Lists) (i j : ℕ) → Canonical ls → i < j → j < length (keys-of ls) → key-order (getD (keys-of ls) i []) (getD (keys-of ls) j []) ≡ Less
+  pub ranked : (k : Key) (ls : Lists) → 0 < length (at ls k) → (m : ℕ) × (m < length (keys-of ls)) × (getD (keys-of ls) m [] ≡ k)
+  pub filled : (ls : Lists) (m : ℕ) → Canonical ls → m < length (keys-of ls) → 0 < length (at ls (getD (keys-of ls) m []))

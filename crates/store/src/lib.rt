@@ -1,11 +1,11 @@
 // What a list store means, and the two traits by which it is used: its ends, and over them whole lists.
 ghost use mathlib.Core.Path.{_≡_};
-ghost use Prim.Native.Nat.{ℕ};
+ghost use Prim.Native.Nat.{ℕ, _+_};
 ghost use lib.ListN.{length};
 ghost use denote.Ref.{now};
 ghost use Rattle.order.specs.Keys.{longest-key};
 ghost use Rattle.store.specs.Limits.{longest-value, refusal-number};
-ghost use Rattle.store.specs.Lists.{Lists, StoreLaws, at, keys-of};
+ghost use Rattle.store.specs.Lists.{Lists, StoreLaws, ListLaws, at, keys-of};
 ghost use Rattle.store.specs.Lists.{held as elements};
 ghost use Rattle.store.specs.Answers.{Copied, Pushed, Popped, WasSet, Inserted, Removed};
 pub use order::LONGEST_KEY;
@@ -103,3 +103,15 @@ pub trait WholeLists: ListEnds {
         ensures kept { λ _. ⌜ Self·ListEnds .room (now (self .exit)) ≡ Self·ListEnds .room (now (self .entry)) ⌝ }
         ensures removed { λ r. ⌜ Removed (Self·ListEnds .lists (now (self .entry))) (Self·ListEnds .lists (now (self .exit))) (now (key .entry)) index r ⌝ };
 }
+
+// How many elements more fit.
+pub fn room_left<S: ListEnds>(store: &S) -> usize
+    ensures { λ r. ⌜ r + elements (lists (now (store .entry))) ≡ room (now (store .entry)) ⌝ }
+{
+    store.capacity() - store.held()
+}
+
+// The laws of `Lists` stand in a contract here, so that none can be dropped.
+fn lists_are_lawful()
+    ensures { λ _. ⌜ ListLaws ⌝ }
+{}

@@ -1,6 +1,6 @@
-use mathlib.Core.Path.{_≡_, refl, ap, subst, sym, _∙_}
+use mathlib.Core.Path.{refl, ap, sym, _∙_}
 use native.Mathlib.Omega.{arith}
-use Prim.Native.Nat.{ℕ, _+_, _-_}
+use Prim.Native.Nat.{ℕ, _-_}
 use lib.ListN.{take}
 use Rattle.std.specs.shelf.Lists.{removed}
 use Rattle.flat.specs.Records.{rows}
