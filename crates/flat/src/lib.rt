@@ -10,23 +10,24 @@ ghost use Rattle.std.specs.Orderings.{Decides};
 ghost use Rattle.std.specs.shelf.Lists.{inserted, removed};
 ghost use Rattle.std.specs.declared.option.Option.the-variants.{Some};
 ghost use Rattle.std.specs.declared.result.Result.the-variants.{Ok, Err};
-ghost use Rattle.order.specs.Keys.{Key, key-in, key-order, longest-key};
+ghost use Rattle.order.specs.Keys.{key-in, longest-key};
 ghost use Rattle.store.specs.Limits.{longest-value, unfit-number};
 ghost use Rattle.store.specs.Lists.{at, put, keys-of};
 ghost use Rattle.store.specs.Lists.{held as elements};
 ghost use Rattle.store.specs.Answers.{over, place, joined, Copied, Pushed, Popped, WasSet, Inserted, Removed};
-ghost use Rattle.store.specs.Rows.{lists-of, values-of, spot, AtRank};
-ghost use Rattle.flat.specs.Records.{key-of, value-of, row, rows, rows-in, flat-laws};
-ghost use Rattle.flat.specs.Changes.{RowsPushed, RowsPopped, RowsSet, RowsInserted, RowsRemoved, Fit, end-of, joined-rows};
+ghost use Rattle.store.specs.Rows.{lists-of, spot, AtRank};
+ghost use Rattle.flat.specs.Records.{row, rows-in, flat-laws};
+ghost use Rattle.flat.specs.Changes.{RowsPushed, RowsPopped, RowsSet, RowsInserted, RowsRemoved, Fit, joined-rows};
 
+mod records;
 mod table;
 
 use order::KeyRow;
-use order::KeyRowOrder;
-use order::TotalOrder;
-use order::least;
-use order::least_after;
-use std::cmp::Ordering;
+use records::count;
+use records::end;
+use records::end_index;
+use records::find;
+use records::ranked;
 use store::LARGEST_STORE;
 use store::LONGEST_KEY;
 use store::LONGEST_VALUE;
@@ -37,146 +38,6 @@ use store::UNFIT;
 use store::WholeLists;
 pub use table::Flat;
 pub use table::Record;
-
-// Copies bytes to the beginning of `out`; those behind them stay.
-fn lay(out: &mut [u8], bytes: &[u8])
-    requires { ⌜ length (now bytes) ≤ length (now out) ⌝ }
-    ensures { λ _. ⌜ now (out .exit) ≡ over (now (out .entry)) (now (bytes .entry)) ⌝ }
-{
-    out[0..bytes.len()].copy_from_slice(bytes);
-}
-
-impl Record {
-    // A record of the empty key with the empty value, to fill a table with.
-    pub fn blank() -> Record
-        ensures { λ r. ⌜ row r ≡ ([], []) ⌝ }
-    {
-        Record {
-            name: KeyRow {
-                len: 0,
-                bytes: [0; LONGEST_KEY],
-            },
-            value: [0; LONGEST_VALUE],
-            value_len: 0,
-        }
-    }
-
-    fn new(name: KeyRow, value: &[u8]) -> Record
-        requires { ⌜ length (now value) ≤ longest-value ⌝ }
-        ensures { λ r. ⌜ row r ≡ (key-in name, now (value .entry)) ⌝ }
-    {
-        let mut bytes = [0; LONGEST_VALUE];
-        lay(&mut bytes, value);
-        Record {
-            name,
-            value: bytes,
-            value_len: value.len() as u8,
-        }
-    }
-
-    fn has_key(&self, key: &[u8]) -> bool
-        ensures { λ r. ⌜ Decides r (now (key .entry) ≡ key-of (now (self .entry))) ⌝ }
-    {
-        key == self.name.as_bytes()
-    }
-
-    fn copy_value(&self, out: &mut [u8; LONGEST_VALUE]) -> usize
-        ensures few { λ r. ⌜ r ≤ longest-value ⌝ }
-        ensures len { λ r. ⌜ r ≡ length (value-of (now (self .entry))) ⌝ }
-        ensures copied { λ _. ⌜ now (out .exit) ≡ over (now (out .entry)) (value-of (now (self .entry))) ⌝ }
-    {
-        let n = self.value_len as usize;
-        lay(out, &self.value[0..n]);
-        n
-    }
-
-    fn copy_key(&self, out: &mut [u8; LONGEST_KEY]) -> usize
-        ensures few { λ r. ⌜ r ≤ longest-key ⌝ }
-        ensures len { λ r. ⌜ r ≡ length (key-of (now (self .entry))) ⌝ }
-        ensures copied { λ _. ⌜ now (out .exit) ≡ over (now (out .entry)) (key-of (now (self .entry))) ⌝ }
-    {
-        let key = self.name.as_bytes();
-        lay(out, key);
-        key.len()
-    }
-}
-
-// Records in the order of their keys.
-impl TotalOrder for Record as RecordOrder {
-    ghost Reading = { Key };
-
-    ghost reads = { key-of };
-
-    ghost order = { key-order };
-
-    fn compare(&self, other: &Self) -> Ordering {
-        self.name.compare(&other.name)
-    }
-}
-
-fn count(records: &[Record], key: &[u8]) -> usize
-    ensures { λ r. ⌜ r ≡ length (values-of (now (key .entry)) (rows (now (records .entry)))) ⌝ }
-{
-    let mut n: usize = 0;
-    for it in records {
-        if it.has_key(key) {
-            n += 1;
-        }
-    }
-    n
-}
-
-// Where the record of `key` stands that has `index` others of it before it; the records' number where there is none.
-fn find(records: &[Record], key: &[u8], index: usize) -> usize
-    ensures { λ r. ⌜ r ≡ spot (now (key .entry)) index (rows (now (records .entry))) ⌝ }
-{
-    let mut left = index;
-    let n = records.len();
-    for i in 0..n {
-        if records[i].has_key(key) {
-            if left == 0 {
-                return i;
-            }
-            left -= 1;
-        }
-    }
-    n
-}
-
-// Where a record goes in on a side of n records.
-fn end(side: Side, n: usize) -> usize
-    ensures { λ r. ⌜ r ≡ end-of side n ⌝ }
-{
-    match side {
-        Side::Left => 0,
-        Side::Right => n,
-    }
-}
-
-// The index of the value on a side of a list of n values.
-fn end_index(side: Side, n: usize) -> usize
-    requires { ⌜ 0 < n ⌝ }
-    ensures { λ r. ⌜ r ≡ place side n ⌝ }
-{
-    match side {
-        Side::Left => 0,
-        Side::Right => n - 1,
-    }
-}
-
-// A record with the key at a rank.
-fn ranked(records: &[Record], rank: usize) -> Option<usize>
-    ensures { λ r. ⌜ AtRank (rows (now (records .entry))) rank r ⌝ }
-{
-    let mut at = least(records);
-    for _i in 0..rank {
-        let Some(a) = at else {
-            return None;
-        };
-        at = least_after(records, a);
-    }
-    at
-}
 
 // A table that no store can be made over, as it was.
 #[derive(Drop)]
@@ -227,38 +88,38 @@ impl<'a> Flat<'a> {
     }
 
     // Puts a record in at a place, those from there on one place up.
-    fn add_at(&mut self, at: usize, it: Record)
+    fn add_at(&mut self, slot: usize, it: Record)
         requires room { ⌜ now self .used < length (now (now self .records)) ⌝ }
-        requires within { ⌜ at ≤ now self .used ⌝ }
+        requires within { ⌜ slot ≤ now self .used ⌝ }
         ensures long { λ _. ⌜ length (now (now (self .exit) .records)) ≡ length (now (now (self .entry) .records)) ⌝ }
-        ensures rows { λ _. ⌜ rows-in (now (self .exit)) ≡ inserted (rows-in (now (self .entry))) at (row it) ⌝ }
+        ensures rows { λ _. ⌜ rows-in (now (self .exit)) ≡ inserted (rows-in (now (self .entry))) slot (row it) ⌝ }
     {
         let mut i = self.used;
-        while i > at {
+        while i > slot {
             let before = self.records[i - 1];
             self.records[i] = before;
             i -= 1;
         }
-        self.records[at] = it;
+        self.records[slot] = it;
         self.used += 1;
     }
 
-    fn write(&mut self, at: usize, it: Record)
-        requires { ⌜ at < now self .used ⌝ }
+    fn write(&mut self, slot: usize, it: Record)
+        requires { ⌜ slot < now self .used ⌝ }
         ensures long { λ _. ⌜ length (now (now (self .exit) .records)) ≡ length (now (now (self .entry) .records)) ⌝ }
-        ensures rows { λ _. ⌜ rows-in (now (self .exit)) ≡ changed (rows-in (now (self .entry))) at (row it) ⌝ }
+        ensures rows { λ _. ⌜ rows-in (now (self .exit)) ≡ changed (rows-in (now (self .entry))) slot (row it) ⌝ }
     {
-        self.records[at] = it;
+        self.records[slot] = it;
     }
 
     // Takes the record at a place out, those behind it one place down.
-    fn cut(&mut self, at: usize)
-        requires { ⌜ at < now self .used ⌝ }
+    fn cut(&mut self, slot: usize)
+        requires { ⌜ slot < now self .used ⌝ }
         ensures long { λ _. ⌜ length (now (now (self .exit) .records)) ≡ length (now (now (self .entry) .records)) ⌝ }
-        ensures rows { λ _. ⌜ rows-in (now (self .exit)) ≡ removed (rows-in (now (self .entry))) at ⌝ }
+        ensures rows { λ _. ⌜ rows-in (now (self .exit)) ≡ removed (rows-in (now (self .entry))) slot ⌝ }
     {
         let last = self.used - 1;
-        let mut i = at;
+        let mut i = slot;
         while i < last {
             let next = self.records[i + 1];
             self.records[i] = next;
@@ -316,9 +177,9 @@ impl<'a> Flat<'a> {
         ensures rows { λ _. ⌜ rows-in (now (self .exit)) ≡ joined-rows side (rows-in (now (self .entry))) (key-in name, now (value .entry)) ⌝ }
         ensures lists { λ _. ⌜ lists-of (rows-in (now (self .exit))) ≡ put (lists-of (rows-in (now (self .entry)))) (key-in name) (joined side (at (lists-of (rows-in (now (self .entry)))) (key-in name)) (now (value .entry))) ⌝ }
     {
-        let at = end(side, self.used);
+        let slot = end(side, self.used);
         let it = Record::new(name, value);
-        self.add_at(at, it);
+        self.add_at(slot, it);
     }
 
     fn write_element(&mut self, name: KeyRow, index: usize, value: &[u8])
@@ -410,9 +271,9 @@ pub impl<'a> ListEnds for Flat<'a> as FlatEnds {
         if n == 0 {
             return None;
         }
-        let at = end_index(side, n);
-        let len = self.copy_element(key, at, out);
-        self.cut_element(key, at);
+        let i = end_index(side, n);
+        let len = self.copy_element(key, i, out);
+        self.cut_element(key, i);
         Some(len)
     }
 

@@ -13,6 +13,6 @@ returns c =
     let o = c .loop-i .inv .2 in
     let rs = c .args .self .now .records .now in
     record {
-      long = length-set (c .loop-i .self .records .now) (c .args .at) (c .args .it) ∙ o .long;
-      rows = ap rows (opened-all rs (c .loop-i .self .records .now) (c .args .at) (c .loop-i .self .used) (c .loop-i .i) (c .args .it) (omega arith) (omega arith) (omega arith) o ∙ ap (λ m. inserted (take m rs) (c .args .at) (c .args .it)) u) ∙ map-inserted _ (take (c .args .self .now .used) rs) (c .args .at) (c .args .it);
+      long = length-set (c .loop-i .self .records .now) (c .args .slot) (c .args .it) ∙ o .long;
+      rows = ap rows (opened-all rs (c .loop-i .self .records .now) (c .args .slot) (c .loop-i .self .used) (c .loop-i .i) (c .args .it) (omega arith) (omega arith) (omega arith) o ∙ ap (λ m. inserted (take m rs) (c .args .slot) (c .args .it)) u) ∙ map-inserted _ (take (c .args .self .now .used) rs) (c .args .slot) (c .args .it);
     }

@@ -10,6 +10,6 @@ returns c =
     let s = c .args .self .now in
     let k = key-in (c .args .name) in
     let v = c .args .value .now in
-    let f : rows-in (c .add-at .last .self) ≡ joined-rows (c .args .side) (rows-in s) (k, v) = pushed-rows (c .args .side) (rows-in s) (rows-in (c .add-at .last .self)) (c .end-at .result) (row (c .new-it .result)) k v
-    (c .end-at .ensures ∙ ap (end-of (c .args .side)) (sym (rows-long s))) (c .new-it .ensures) (c .add-at .ensures .rows) in
+    let f : rows-in (c .add-at .last .self) ≡ joined-rows (c .args .side) (rows-in s) (k, v) = pushed-rows (c .args .side) (rows-in s) (rows-in (c .add-at .last .self)) (c .end-slot .result) (row (c .new-it .result)) k v
+    (c .end-slot .ensures ∙ ap (end-of (c .args .side)) (sym (rows-long s))) (c .new-it .ensures) (c .add-at .ensures .rows) in
     record { long = c .add-at .ensures .long; rows = f; lists = pushed-lists (c .args .side) (rows-in s) (rows-in (c .add-at .last .self)) k v f }

@@ -8,10 +8,10 @@ use Rattle.flat.proofs.Shifts.{closed-none, closed-step, closed-all, map-remov
 use Rattle.flat.proofs.table.Flat.cut.Needs as need
 
 pub loop-i-holds : need.loop-i-holds
-loop-i-holds c = (refl, closed-none (c .args .self .now .records .now) (c .args .at) (c .args .self .now .used) (c .pre) (c .args .self .now .fits))
+loop-i-holds c = (refl, closed-none (c .args .self .now .records .now) (c .args .slot) (c .args .self .now .used) (c .pre) (c .args .self .now .fits))
 
 pub loop-i-again : need.loop-i-again
-loop-i-again c = (c .loop-i .inv .0, closed-step (c .args .self .now .records .now) (c .loop-i .self .records .now) (c .args .at) (c .loop-i .self .used) (c .loop-i .i) (c .index-self-i .result) (omega arith) (omega arith) (c .loop-i .inv .1))
+loop-i-again c = (c .loop-i .inv .0, closed-step (c .args .self .now .records .now) (c .loop-i .self .records .now) (c .args .slot) (c .loop-i .self .used) (c .loop-i .i) (c .index-self-i .result) (omega arith) (omega arith) (c .loop-i .inv .1))
 
 pub returns : need.returns
 returns c =
@@ -20,6 +20,6 @@ returns c =
     record {
       long = c .loop-i .inv .1 .long;
       rows = ap rows (ap (λ (m : ℕ). take (m - 1) (c .loop-i .self .records .now)) (sym u)
-          ∙ closed-all rs (c .loop-i .self .records .now) (c .args .at) (c .loop-i .self .used) (c .loop-i .i) (omega arith) (omega arith) (c .loop-i .inv .1)
-          ∙ ap (λ (m : ℕ). removed (take m rs) (c .args .at)) u) ∙ map-removed _ (take (c .args .self .now .used) rs) (c .args .at);
+          ∙ closed-all rs (c .loop-i .self .records .now) (c .args .slot) (c .loop-i .self .used) (c .loop-i .i) (omega arith) (omega arith) (c .loop-i .inv .1)
+          ∙ ap (λ (m : ℕ). removed (take m rs) (c .args .slot)) u) ∙ map-removed _ (take (c .args .self .now .used) rs) (c .args .slot);
     }

@@ -11,6 +11,6 @@ returns c =
     let rs = c .args .self .now .records .now in
     let n = c .args .self .now .used in
     record {
-      long = length-set rs (c .args .at) (c .args .it);
-      rows = ap rows (written rs n (c .args .at) (c .args .it) (omega (arith, c .args .self .now .fits, length-take n rs))) ∙ map-set row (take n rs) (c .args .at) (c .args .it);
+      long = length-set rs (c .args .slot) (c .args .it);
+      rows = ap rows (written rs n (c .args .slot) (c .args .it) (omega (arith, c .args .self .now .fits, length-take n rs))) ∙ map-set row (take n rs) (c .args .slot) (c .args .it);
     }

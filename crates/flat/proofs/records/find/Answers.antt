@@ -5,8 +5,8 @@ use lib.ListN.{drop}
 use Rattle.store.specs.Rows.{spot}
 use Rattle.flat.specs.Records.{rows}
 use Rattle.flat.proofs.Scans.{spot-here, spot-later, spot-pass, spot-end}
-use Rattle.flat.proofs.find.Needs as need
-use Rattle.flat.proofs.find.Needs.{then-has-key·else-left-eq0, else-has-key}
+use Rattle.flat.proofs.records.find.Needs as need
+use Rattle.flat.proofs.records.find.Needs.{then-has-key·else-left-eq0, else-has-key}
 
 pub loop-i-holds : need.loop-i-holds
 loop-i-holds c = omega arith

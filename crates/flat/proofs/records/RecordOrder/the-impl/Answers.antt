@@ -1,5 +1,5 @@
 use Rattle.order.proofs.KeyLaws.{key-order-lawful}
-use Rattle.flat.proofs.RecordOrder.the-impl.Needs as need
+use Rattle.flat.proofs.records.RecordOrder.the-impl.Needs as need
 
 pub lawful-law : need.lawful-law
 lawful-law = key-order-lawful

@@ -1,7 +1,7 @@
 use native.Mathlib.Omega.{arith}
 use Rattle.flat.proofs.Scans.{count-yes, count-no, count-end}
-use Rattle.flat.proofs.count.Needs as need
-use Rattle.flat.proofs.count.Needs.{then-has-key, else-has-key}
+use Rattle.flat.proofs.records.count.Needs as need
+use Rattle.flat.proofs.records.count.Needs.{then-has-key, else-has-key}
 
 pub loop-it-again : need.loop-it-again
 loop-it-again c =
