@@ -8,7 +8,7 @@ use store::WholeLists;
 use store::room_left;
 
 // The list of a key is just these values.
-pub fn holds<S: WholeLists>(store: &S, key: &[u8], values: &[&[u8]]) -> Result<(), Fail> {
+pub(crate) fn holds<S: WholeLists>(store: &S, key: &[u8], values: &[&[u8]]) -> Result<(), Fail> {
     check_eq(store.len(key), values.len())?;
     let mut out = [0; LONGEST_VALUE];
     for (i, v) in values.iter().enumerate() {
@@ -28,7 +28,7 @@ fn number(r: Result<(), Refusal>) -> u8 {
 // Each of what follows takes an empty store for three elements.
 
 // Pushes and pops at both ends; bytes behind a copied value stay.
-pub fn ends<S: WholeLists>(store: &mut S) -> Result<(), Fail> {
+pub(crate) fn ends<S: WholeLists>(store: &mut S) -> Result<(), Fail> {
     check_eq(store.capacity(), 3)?;
     check_eq(room_left(store), 3)?;
     check_eq(number(store.push(Side::Right, b"k", b"b")), 0)?;
@@ -46,7 +46,7 @@ pub fn ends<S: WholeLists>(store: &mut S) -> Result<(), Fail> {
 }
 
 // Keys and values of the longest length go in, longer ones are refused.
-pub fn refusals<S: WholeLists>(store: &mut S) -> Result<(), Fail> {
+pub(crate) fn refusals<S: WholeLists>(store: &mut S) -> Result<(), Fail> {
     check_eq(
         number(store.push(Side::Left, &[1; LONGEST_KEY + 1], b"v")),
         1,
@@ -64,7 +64,7 @@ pub fn refusals<S: WholeLists>(store: &mut S) -> Result<(), Fail> {
 }
 
 // A full store refuses, whatever the index, and nothing changes.
-pub fn full<S: WholeLists>(store: &mut S) -> Result<(), Fail> {
+pub(crate) fn full<S: WholeLists>(store: &mut S) -> Result<(), Fail> {
     check_eq(number(store.push(Side::Left, b"a", b"1")), 0)?;
     check_eq(number(store.push(Side::Left, b"b", b"2")), 0)?;
     check_eq(number(store.push(Side::Left, b"", b"")), 0)?;
@@ -76,7 +76,7 @@ pub fn full<S: WholeLists>(store: &mut S) -> Result<(), Fail> {
 }
 
 // Changes at an index; the length is an index for an insert alone.
-pub fn whole_lists<S: WholeLists>(store: &mut S) -> Result<(), Fail> {
+pub(crate) fn whole_lists<S: WholeLists>(store: &mut S) -> Result<(), Fail> {
     check_eq(number(store.insert(b"k", 1, b"x")), 4)?;
     check_eq(number(store.insert(b"k", 0, b"a")), 0)?;
     check_eq(number(store.insert(b"k", 1, b"c")), 0)?;
@@ -96,7 +96,7 @@ fn key_is<S: WholeLists>(store: &S, rank: usize, key: &[u8]) -> Result<(), Fail>
 }
 
 // Keys come in ascending order, each once, and only while their list has an element.
-pub fn keys<S: WholeLists>(store: &mut S) -> Result<(), Fail> {
+pub(crate) fn keys<S: WholeLists>(store: &mut S) -> Result<(), Fail> {
     check_eq(number(store.push(Side::Left, b"b", b"1")), 0)?;
     check_eq(number(store.push(Side::Left, b"aa", b"2")), 0)?;
     check_eq(number(store.push(Side::Right, b"b", b"3")), 0)?;
