@@ -1,12 +1,13 @@
 -- A record as a row, and a flat store as the rows of the records in use.
 use mathlib.Core.List.{List, [], _∷_, map}
+use Prim.Native.Nat.{ℕ}
 use native.Mathlib.Omega.{arith}
 use lib.ListN.{length, take, length-take}
 use denote.Ref.{now}
 use Rattle.std.specs.shelf.Lists.{All}
 use Rattle.std.proofs.shelf.Lists.{length-map}
 use Rattle.order.specs.Keys.{Key, key-in}
-use Rattle.store.specs.Lists.{Value, StoreLaws}
+use Rattle.store.specs.Lists.{Value, Lists, StoreLaws}
 use Rattle.store.specs.Rows.{Row, Short, lists-of}
 use Rattle.store.proofs.RowLaws.{rows-laws}
 use Rattle.flat.specs.declared.table.Record.{Record}
@@ -24,9 +25,15 @@ row r = (key-of r, value-of r)
 abbrev pub rows : List Record → List Row
 rows rs = map row rs
 
--- the rows of a store: its lists are what they show
+-- a store's rows are those of the records in use, its lists what these show, and its capacity the table's length
 abbrev pub rows-in : Flat → List Row
 rows-in s = rows (take (s .used) (now (s .records)))
+
+abbrev pub lists-in : Flat → Lists
+lists-in s = lists-of (rows-in s)
+
+abbrev pub room-of : Flat → ℕ
+room-of s = length (now (s .records))
 
 -- ---- what holds of the lists of every flat store
 
@@ -34,5 +41,5 @@ short : (rs : List Record) → All Short (rows rs)
 short [] = tt
 short (r ∷ rs) = ((simp length-take (omega arith), simp length-take (omega (arith, r .«value_fits»))), short rs)
 
-pub flat-laws : (s : Flat) → StoreLaws (length (now (s .records))) (lists-of (rows-in s))
-flat-laws s = rows-laws (length (now (s .records))) (rows-in s) (s .some) (s .few) (simp (length-map, length-take) (omega (arith, s .fits))) (short (take (s .used) (now (s .records))))
+pub flat-laws : (s : Flat) → StoreLaws (room-of s) (lists-in s)
+flat-laws s = rows-laws (room-of s) (rows-in s) (s .some) (s .few) (simp (length-map, length-take) (omega (arith, s .fits))) (short (take (s .used) (now (s .records))))

@@ -15,8 +15,8 @@ ghost use Rattle.store.specs.Limits.{longest-value, unfit-number};
 ghost use Rattle.store.specs.Lists.{at, put, keys-of};
 ghost use Rattle.store.specs.Lists.{held as elements};
 ghost use Rattle.store.specs.Answers.{over, place, joined, Copied, Pushed, Popped, WasSet, Inserted, Removed};
-ghost use Rattle.store.specs.Rows.{lists-of, spot, AtRank};
-ghost use Rattle.flat.specs.Records.{row, rows-in, flat-laws};
+ghost use Rattle.store.specs.Rows.{spot, AtRank};
+ghost use Rattle.flat.specs.Records.{row, rows-in, lists-in, room-of, flat-laws};
 ghost use Rattle.flat.specs.Changes.{RowsPushed, RowsPopped, RowsSet, RowsInserted, RowsRemoved, Fit, joined-rows};
 
 mod records;
@@ -46,6 +46,7 @@ pub struct Refused<'a> {
 }
 
 impl<'a> Refused<'a> {
+    // The number of the refusal.
     pub fn number(&self) -> u8
         ensures { λ r. ⌜ r ≡ unfit-number ⌝ }
     {
@@ -56,7 +57,7 @@ impl<'a> Refused<'a> {
 // The empty store over a table of 1 to `LARGEST_STORE` records, or the table back.
 pub fn prepare<'a>(records: &'a mut [Record]) -> Result<Flat<'a>, Refused<'a>>
     ensures { λ r. ⌜ elim r [
-      | Ok s ↦ Fit (length (now (records .entry))) × (length (now (s .records)) ≡ length (now (records .entry))) × (rows-in s ≡ [])
+      | Ok s ↦ Fit (length (now (records .entry))) × (room-of s ≡ length (now (records .entry))) × (rows-in s ≡ [])
       | Err e ↦ (Fit (length (now (records .entry))) → ⊥) × (now (e .records) ≡ now (records .entry))
     ] ⌝ }
 {
@@ -69,18 +70,21 @@ pub fn prepare<'a>(records: &'a mut [Record]) -> Result<Flat<'a>, Refused<'a>>
 
 // What is done to the table, by the records' places.
 impl<'a> Flat<'a> {
+    // Where the record of an element stands; past the records in use where there is none.
     fn position(&self, key: &[u8], index: usize) -> usize
         ensures { λ r. ⌜ r ≡ spot (now (key .entry)) index (rows-in (now (self .entry))) ⌝ }
     {
         find(&self.records[0..self.used], key, index)
     }
 
+    // The same for a key in a row.
     fn position_of(&self, name: &KeyRow, index: usize) -> usize
         ensures { λ r. ⌜ r ≡ spot (key-in (now (name .entry))) index (rows-in (now (self .entry))) ⌝ }
     {
         self.position(name.as_bytes(), index)
     }
 
+    // Where a record with the key at a rank stands.
     fn ranked_at(&self, rank: usize) -> Option<usize>
         ensures { λ r. ⌜ AtRank (rows-in (now (self .entry))) rank r ⌝ }
     {
@@ -89,9 +93,9 @@ impl<'a> Flat<'a> {
 
     // Puts a record in at a place, those from there on one place up.
     fn add_at(&mut self, slot: usize, it: Record)
-        requires room { ⌜ now self .used < length (now (now self .records)) ⌝ }
+        requires room { ⌜ now self .used < room-of (now self) ⌝ }
         requires within { ⌜ slot ≤ now self .used ⌝ }
-        ensures long { λ _. ⌜ length (now (now (self .exit) .records)) ≡ length (now (now (self .entry) .records)) ⌝ }
+        ensures long { λ _. ⌜ room-of (now (self .exit)) ≡ room-of (now (self .entry)) ⌝ }
         ensures rows { λ _. ⌜ rows-in (now (self .exit)) ≡ inserted (rows-in (now (self .entry))) slot (row it) ⌝ }
     {
         let mut i = self.used;
@@ -104,9 +108,10 @@ impl<'a> Flat<'a> {
         self.used += 1;
     }
 
+    // Writes a record over the one at a place.
     fn write(&mut self, slot: usize, it: Record)
         requires { ⌜ slot < now self .used ⌝ }
-        ensures long { λ _. ⌜ length (now (now (self .exit) .records)) ≡ length (now (now (self .entry) .records)) ⌝ }
+        ensures long { λ _. ⌜ room-of (now (self .exit)) ≡ room-of (now (self .entry)) ⌝ }
         ensures rows { λ _. ⌜ rows-in (now (self .exit)) ≡ changed (rows-in (now (self .entry))) slot (row it) ⌝ }
     {
         self.records[slot] = it;
@@ -115,7 +120,7 @@ impl<'a> Flat<'a> {
     // Takes the record at a place out, those behind it one place down.
     fn cut(&mut self, slot: usize)
         requires { ⌜ slot < now self .used ⌝ }
-        ensures long { λ _. ⌜ length (now (now (self .exit) .records)) ≡ length (now (now (self .entry) .records)) ⌝ }
+        ensures long { λ _. ⌜ room-of (now (self .exit)) ≡ room-of (now (self .entry)) ⌝ }
         ensures rows { λ _. ⌜ rows-in (now (self .exit)) ≡ removed (rows-in (now (self .entry))) slot ⌝ }
     {
         let last = self.used - 1;
@@ -131,37 +136,42 @@ impl<'a> Flat<'a> {
 
 // The same by what it does to the lists.
 impl<'a> Flat<'a> {
+    // Every record in use is an element.
     fn elements_held(&self) -> usize
-        ensures { λ r. ⌜ (r ≡ elements (lists-of (rows-in (now (self .entry))))) × (r ≡ now (self .entry) .used) ⌝ }
+        ensures { λ r. ⌜ (r ≡ elements (lists-in (now (self .entry)))) × (r ≡ now (self .entry) .used) ⌝ }
     {
         self.used
     }
 
+    // Whether no record is free.
     fn is_full(&self) -> bool
-        ensures test { λ r. ⌜ Decides r (elements (lists-of (rows-in (now (self .entry)))) ≡ length (now (now (self .entry) .records))) ⌝ }
-        ensures room { λ r. ⌜ (r ≡ false → now (self .entry) .used < length (now (now (self .entry) .records))) ⌝ }
+        ensures test { λ r. ⌜ Decides r (elements (lists-in (now (self .entry))) ≡ room-of (now (self .entry))) ⌝ }
+        ensures room { λ r. ⌜ (r ≡ false → now (self .entry) .used < room-of (now (self .entry))) ⌝ }
     {
         let held = self.elements_held();
         held == self.records.len()
     }
 
+    // How many elements the list of a key has.
     fn elements_of(&self, key: &[u8]) -> usize
-        ensures { λ r. ⌜ r ≡ length (at (lists-of (rows-in (now (self .entry)))) (now (key .entry))) ⌝ }
+        ensures { λ r. ⌜ r ≡ length (at (lists-in (now (self .entry))) (now (key .entry))) ⌝ }
     {
         count(&self.records[0..self.used], key)
     }
 
+    // Copies an element of a key's list out.
     fn copy_element(&self, key: &[u8], index: usize, out: &mut [u8; LONGEST_VALUE]) -> usize
-        requires { ⌜ index < length (at (lists-of (rows-in (now self))) (now key)) ⌝ }
-        ensures { λ r. ⌜ Copied longest-value (at (lists-of (rows-in (now (self .entry)))) (now (key .entry))) index (now (out .entry)) (now (out .exit)) (Some r) ⌝ }
+        requires { ⌜ index < length (at (lists-in (now self)) (now key)) ⌝ }
+        ensures { λ r. ⌜ Copied longest-value (at (lists-in (now (self .entry))) (now (key .entry))) index (now (out .entry)) (now (out .exit)) (Some r) ⌝ }
     {
         let i = self.position(key, index);
         let it = self.records[i];
         it.copy_value(out)
     }
 
+    // Copies the key at a rank out.
     fn copy_ranked(&self, rank: usize, out: &mut [u8; LONGEST_KEY]) -> Option<usize>
-        ensures { λ r. ⌜ Copied longest-key (keys-of (lists-of (rows-in (now (self .entry))))) rank (now (out .entry)) (now (out .exit)) r ⌝ }
+        ensures { λ r. ⌜ Copied longest-key (keys-of (lists-in (now (self .entry)))) rank (now (out .entry)) (now (out .exit)) r ⌝ }
     {
         let Some(i) = self.ranked_at(rank) else {
             return None;
@@ -170,48 +180,52 @@ impl<'a> Flat<'a> {
         Some(it.copy_key(out))
     }
 
+    // Adds an element at a side of a key's list.
     fn add_end(&mut self, side: Side, name: KeyRow, value: &[u8])
-        requires room { ⌜ now self .used < length (now (now self .records)) ⌝ }
+        requires room { ⌜ now self .used < room-of (now self) ⌝ }
         requires short { ⌜ length (now value) ≤ longest-value ⌝ }
-        ensures long { λ _. ⌜ length (now (now (self .exit) .records)) ≡ length (now (now (self .entry) .records)) ⌝ }
+        ensures long { λ _. ⌜ room-of (now (self .exit)) ≡ room-of (now (self .entry)) ⌝ }
         ensures rows { λ _. ⌜ rows-in (now (self .exit)) ≡ joined-rows side (rows-in (now (self .entry))) (key-in name, now (value .entry)) ⌝ }
-        ensures lists { λ _. ⌜ lists-of (rows-in (now (self .exit))) ≡ put (lists-of (rows-in (now (self .entry)))) (key-in name) (joined side (at (lists-of (rows-in (now (self .entry)))) (key-in name)) (now (value .entry))) ⌝ }
+        ensures lists { λ _. ⌜ lists-in (now (self .exit)) ≡ put (lists-in (now (self .entry))) (key-in name) (joined side (at (lists-in (now (self .entry))) (key-in name)) (now (value .entry))) ⌝ }
     {
         let slot = end(side, self.used);
         let it = Record::new(name, value);
         self.add_at(slot, it);
     }
 
+    // Writes a value over an element of a key's list.
     fn write_element(&mut self, name: KeyRow, index: usize, value: &[u8])
-        requires within { ⌜ index < length (at (lists-of (rows-in (now self))) (key-in name)) ⌝ }
+        requires within { ⌜ index < length (at (lists-in (now self)) (key-in name)) ⌝ }
         requires short { ⌜ length (now value) ≤ longest-value ⌝ }
-        ensures long { λ _. ⌜ length (now (now (self .exit) .records)) ≡ length (now (now (self .entry) .records)) ⌝ }
+        ensures long { λ _. ⌜ room-of (now (self .exit)) ≡ room-of (now (self .entry)) ⌝ }
         ensures rows { λ _. ⌜ rows-in (now (self .exit)) ≡ changed (rows-in (now (self .entry))) (spot (key-in name) index (rows-in (now (self .entry)))) (key-in name, now (value .entry)) ⌝ }
-        ensures lists { λ _. ⌜ lists-of (rows-in (now (self .exit))) ≡ put (lists-of (rows-in (now (self .entry)))) (key-in name) (changed (at (lists-of (rows-in (now (self .entry)))) (key-in name)) index (now (value .entry))) ⌝ }
+        ensures lists { λ _. ⌜ lists-in (now (self .exit)) ≡ put (lists-in (now (self .entry))) (key-in name) (changed (at (lists-in (now (self .entry))) (key-in name)) index (now (value .entry))) ⌝ }
     {
         let i = self.position_of(&name, index);
         let it = Record::new(name, value);
         self.write(i, it);
     }
 
+    // Adds an element before one of a key's list, or at its end.
     fn add_element(&mut self, name: KeyRow, index: usize, value: &[u8])
-        requires room { ⌜ now self .used < length (now (now self .records)) ⌝ }
-        requires within { ⌜ index ≤ length (at (lists-of (rows-in (now self))) (key-in name)) ⌝ }
+        requires room { ⌜ now self .used < room-of (now self) ⌝ }
+        requires within { ⌜ index ≤ length (at (lists-in (now self)) (key-in name)) ⌝ }
         requires short { ⌜ length (now value) ≤ longest-value ⌝ }
-        ensures long { λ _. ⌜ length (now (now (self .exit) .records)) ≡ length (now (now (self .entry) .records)) ⌝ }
+        ensures long { λ _. ⌜ room-of (now (self .exit)) ≡ room-of (now (self .entry)) ⌝ }
         ensures rows { λ _. ⌜ rows-in (now (self .exit)) ≡ inserted (rows-in (now (self .entry))) (spot (key-in name) index (rows-in (now (self .entry)))) (key-in name, now (value .entry)) ⌝ }
-        ensures lists { λ _. ⌜ lists-of (rows-in (now (self .exit))) ≡ put (lists-of (rows-in (now (self .entry)))) (key-in name) (inserted (at (lists-of (rows-in (now (self .entry)))) (key-in name)) index (now (value .entry))) ⌝ }
+        ensures lists { λ _. ⌜ lists-in (now (self .exit)) ≡ put (lists-in (now (self .entry))) (key-in name) (inserted (at (lists-in (now (self .entry))) (key-in name)) index (now (value .entry))) ⌝ }
     {
         let i = self.position_of(&name, index);
         let it = Record::new(name, value);
         self.add_at(i, it);
     }
 
+    // Takes an element of a key's list out.
     fn cut_element(&mut self, key: &[u8], index: usize)
-        requires { ⌜ index < length (at (lists-of (rows-in (now self))) (now key)) ⌝ }
-        ensures long { λ _. ⌜ length (now (now (self .exit) .records)) ≡ length (now (now (self .entry) .records)) ⌝ }
+        requires { ⌜ index < length (at (lists-in (now self)) (now key)) ⌝ }
+        ensures long { λ _. ⌜ room-of (now (self .exit)) ≡ room-of (now (self .entry)) ⌝ }
         ensures rows { λ _. ⌜ rows-in (now (self .exit)) ≡ removed (rows-in (now (self .entry))) (spot (now (key .entry)) index (rows-in (now (self .entry)))) ⌝ }
-        ensures lists { λ _. ⌜ lists-of (rows-in (now (self .exit))) ≡ put (lists-of (rows-in (now (self .entry)))) (now (key .entry)) (removed (at (lists-of (rows-in (now (self .entry)))) (now (key .entry))) index) ⌝ }
+        ensures lists { λ _. ⌜ lists-in (now (self .exit)) ≡ put (lists-in (now (self .entry))) (now (key .entry)) (removed (at (lists-in (now (self .entry))) (now (key .entry))) index) ⌝ }
     {
         let i = self.position(key, index);
         self.cut(i);
@@ -219,9 +233,9 @@ impl<'a> Flat<'a> {
 }
 
 pub impl<'a> ListEnds for Flat<'a> as FlatEnds {
-    ghost room = { λ s. length (now (s .records)) };
+    ghost room = { room-of };
 
-    ghost lists = { λ s. lists-of (rows-in s) };
+    ghost lists = { lists-in };
 
     ghost laws = { flat-laws };
 
@@ -245,8 +259,8 @@ pub impl<'a> ListEnds for Flat<'a> as FlatEnds {
     }
 
     fn push(&mut self, side: Side, key: &[u8], value: &[u8]) -> Result<(), Refusal>
-        ensures kept { λ _. ⌜ length (now (now (self .exit) .records)) ≡ length (now (now (self .entry) .records)) ⌝ }
-        ensures pushed { λ r. ⌜ Pushed (length (now (now (self .entry) .records))) (lists-of (rows-in (now (self .entry)))) (lists-of (rows-in (now (self .exit)))) side (now (key .entry)) (now (value .entry)) r ⌝ }
+        ensures kept { λ _. ⌜ room-of (now (self .exit)) ≡ room-of (now (self .entry)) ⌝ }
+        ensures pushed { λ r. ⌜ Pushed (room-of (now (self .entry))) (lists-in (now (self .entry))) (lists-in (now (self .exit))) side (now (key .entry)) (now (value .entry)) r ⌝ }
         ensures rows { λ r. ⌜ RowsPushed (rows-in (now (self .entry))) (rows-in (now (self .exit))) side (now (key .entry)) (now (value .entry)) r ⌝ }
     {
         let Some(name) = KeyRow::of(key) else {
@@ -263,8 +277,8 @@ pub impl<'a> ListEnds for Flat<'a> as FlatEnds {
     }
 
     fn pop(&mut self, side: Side, key: &[u8], out: &mut [u8; LONGEST_VALUE]) -> Option<usize>
-        ensures kept { λ _. ⌜ length (now (now (self .exit) .records)) ≡ length (now (now (self .entry) .records)) ⌝ }
-        ensures popped { λ r. ⌜ Popped (lists-of (rows-in (now (self .entry)))) (lists-of (rows-in (now (self .exit)))) side (now (key .entry)) (now (out .entry)) (now (out .exit)) r ⌝ }
+        ensures kept { λ _. ⌜ room-of (now (self .exit)) ≡ room-of (now (self .entry)) ⌝ }
+        ensures popped { λ r. ⌜ Popped (lists-in (now (self .entry))) (lists-in (now (self .exit))) side (now (key .entry)) (now (out .entry)) (now (out .exit)) r ⌝ }
         ensures rows { λ r. ⌜ RowsPopped (rows-in (now (self .entry))) (rows-in (now (self .exit))) side (now (key .entry)) r ⌝ }
     {
         let n = self.len(key);
@@ -284,8 +298,8 @@ pub impl<'a> ListEnds for Flat<'a> as FlatEnds {
 
 pub impl<'a> WholeLists for Flat<'a> as FlatWhole {
     fn set(&mut self, key: &[u8], index: usize, value: &[u8]) -> Result<(), Refusal>
-        ensures kept { λ _. ⌜ length (now (now (self .exit) .records)) ≡ length (now (now (self .entry) .records)) ⌝ }
-        ensures was_set { λ r. ⌜ WasSet (lists-of (rows-in (now (self .entry)))) (lists-of (rows-in (now (self .exit)))) (now (key .entry)) index (now (value .entry)) r ⌝ }
+        ensures kept { λ _. ⌜ room-of (now (self .exit)) ≡ room-of (now (self .entry)) ⌝ }
+        ensures was_set { λ r. ⌜ WasSet (lists-in (now (self .entry))) (lists-in (now (self .exit))) (now (key .entry)) index (now (value .entry)) r ⌝ }
         ensures rows { λ r. ⌜ RowsSet (rows-in (now (self .entry))) (rows-in (now (self .exit))) (now (key .entry)) index (now (value .entry)) r ⌝ }
     {
         let Some(name) = KeyRow::of(key) else {
@@ -302,8 +316,8 @@ pub impl<'a> WholeLists for Flat<'a> as FlatWhole {
     }
 
     fn insert(&mut self, key: &[u8], index: usize, value: &[u8]) -> Result<(), Refusal>
-        ensures kept { λ _. ⌜ length (now (now (self .exit) .records)) ≡ length (now (now (self .entry) .records)) ⌝ }
-        ensures inserted { λ r. ⌜ Inserted (length (now (now (self .entry) .records))) (lists-of (rows-in (now (self .entry)))) (lists-of (rows-in (now (self .exit)))) (now (key .entry)) index (now (value .entry)) r ⌝ }
+        ensures kept { λ _. ⌜ room-of (now (self .exit)) ≡ room-of (now (self .entry)) ⌝ }
+        ensures inserted { λ r. ⌜ Inserted (room-of (now (self .entry))) (lists-in (now (self .entry))) (lists-in (now (self .exit))) (now (key .entry)) index (now (value .entry)) r ⌝ }
         ensures rows { λ r. ⌜ RowsInserted (rows-in (now (self .entry))) (rows-in (now (self .exit))) (now (key .entry)) index (now (value .entry)) r ⌝ }
     {
         let Some(name) = KeyRow::of(key) else {
@@ -323,8 +337,8 @@ pub impl<'a> WholeLists for Flat<'a> as FlatWhole {
     }
 
     fn remove(&mut self, key: &[u8], index: usize) -> Result<(), Refusal>
-        ensures kept { λ _. ⌜ length (now (now (self .exit) .records)) ≡ length (now (now (self .entry) .records)) ⌝ }
-        ensures removed { λ r. ⌜ Removed (lists-of (rows-in (now (self .entry)))) (lists-of (rows-in (now (self .exit)))) (now (key .entry)) index r ⌝ }
+        ensures kept { λ _. ⌜ room-of (now (self .exit)) ≡ room-of (now (self .entry)) ⌝ }
+        ensures removed { λ r. ⌜ Removed (lists-in (now (self .entry))) (lists-in (now (self .exit))) (now (key .entry)) index r ⌝ }
         ensures rows { λ r. ⌜ RowsRemoved (rows-in (now (self .entry))) (rows-in (now (self .exit))) (now (key .entry)) index r ⌝ }
     {
         if key.len() > LONGEST_KEY {

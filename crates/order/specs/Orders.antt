@@ -7,11 +7,14 @@ use Rattle.std.specs.Orderings.{reversed}
 use Rattle.std.specs.declared.option.Option.{Option}
 use Rattle.std.specs.declared.option.Option.the-variants.{Some, None}
 
--- Of two different values exactly one comes first, none comes before itself, and the order is transitive.
+-- The laws of a total order; a comes before b where `order a b` is Less.
 pub record Lawful {V : Type 0} (order : V → V → Ordering) : Type 0 where
+  -- of two different values exactly one comes first
   pub exact : (a b : V) → order a b ≡ Equal → a ≡ b
-  pub itself : (a : V) → order a a ≡ Equal
   pub turned : (a b : V) → order b a ≡ reversed (order a b)
+  -- none comes before itself
+  pub itself : (a : V) → order a a ≡ Equal
+  -- the order is transitive
   pub chained : (a b c : V) → order a b ≡ Less → order b c ≡ Less → order a c ≡ Less
 
 -- A sequence is its length n and its values by index, `at`; P says which values are looked at.

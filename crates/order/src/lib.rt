@@ -15,8 +15,9 @@ use std::cmp::Ordering;
 // The most bytes that a key has.
 pub const LONGEST_KEY: usize = 32;
 
-// A type whose values stand in a total order by what they read as.
+// A type whose values stand in a total order by what they read as: two that read alike are one to the order.
 pub trait TotalOrder {
+    // What values read as, how they are read, and how readings are ordered.
     ghost Reading: { Type 0 };
 
     ghost reads: { Self → Reading };
@@ -25,10 +26,12 @@ pub trait TotalOrder {
 
     law lawful: { Lawful order };
 
+    // Which of two values comes first.
     fn compare(&self, other: &Self) -> Ordering
         ensures { λ r. ⌜ r ≡ order (reads (now (self .entry))) (reads (now (other .entry))) ⌝ };
 }
 
+// Whether a comes before b.
 fn comes_before<T: TotalOrder>(a: &T, b: &T) -> bool
     ensures { λ r. ⌜ Decides r (order (reads (now (a .entry))) (reads (now (b .entry))) ≡ Less) ⌝ }
 {
@@ -99,13 +102,15 @@ pub fn least_after<T: TotalOrder>(items: &[T], from: usize) -> Option<usize>
     search(items, Some(from))
 }
 
+// Keys byte by byte, unsigned, a proper beginning first.
 fn compare_keys(a: &[u8], b: &[u8]) -> Ordering
     ensures { λ r. ⌜ r ≡ key-order (now (a .entry)) (now (b .entry)) ⌝ }
 {
     a.cmp(&b)
 }
 
-// A key as a plain row of a table: how many of the bytes are its own, and the bytes. Any row is a key, since a length past the longest reads as the longest.
+// A key as a plain row of a table: how many of the bytes are its own, and the bytes. Every row is a key, since a length past the longest
+// reads as the longest.
 #[derive(Clone, Copy)]
 pub struct KeyRow {
     pub len: u8,

@@ -52,9 +52,11 @@ Canonical (e ∷ es) = (0 < length (e .1)) × Above (e .0) es × Canonical es
 
 -- what holds of every store, in every state, for its capacity and its lists
 pub record StoreLaws (room : ℕ) (ls : Lists) : Type 0 where
+  -- the capacity is within its limits, and what is held within it
   pub some : 1 ≤ room
   pub few : room ≤ largest-store
   pub fits : held ls ≤ room
+  -- the lists are in their one form, with short keys and values
   pub canonical : Canonical ls
   pub keys : (k : Key) → longest-key < length k → at ls k ≡ []
   pub values : (k : Key) (i : ℕ) → length (getD (at ls k) i []) ≤ longest-value

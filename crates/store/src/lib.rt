@@ -7,6 +7,7 @@ ghost use Rattle.order.specs.Keys.{longest-key};
 ghost use Rattle.store.specs.Limits.{longest-value, refusal-number};
 ghost use Rattle.store.specs.Lists.{Lists, StoreLaws, ListLaws, at, keys-of};
 ghost use Rattle.store.specs.Lists.{held as elements};
+ghost use Rattle.store.specs.Rows.{RowLaws};
 ghost use Rattle.store.specs.Answers.{Copied, Pushed, Popped, WasSet, Inserted, Removed};
 pub use order::LONGEST_KEY;
 
@@ -35,6 +36,7 @@ pub enum Refusal {
 }
 
 impl Refusal {
+    // The number of the refusal.
     pub fn number(self) -> u8
         ensures { λ r. ⌜ r ≡ refusal-number self ⌝ }
     {
@@ -49,10 +51,12 @@ impl Refusal {
 
 // A list store by the ends of its lists.
 pub trait ListEnds {
+    // The capacity and the lists that a store stands for.
     ghost room: { Self → ℕ };
 
     ghost lists: { Self → Lists };
 
+    // What holds of them in every state.
     ghost laws: { (s : Self) → StoreLaws (room s) (lists s) };
 
     // How many elements fit in all.
@@ -111,7 +115,11 @@ pub fn room_left<S: ListEnds>(store: &S) -> usize
     store.capacity() - store.held()
 }
 
-// The laws of `Lists` stand in a contract here, so that none can be dropped.
+// The laws of `Lists` and of rows stand in contracts here, so that none can be dropped.
 fn lists_are_lawful()
     ensures { λ _. ⌜ ListLaws ⌝ }
+{}
+
+fn rows_are_lawful()
+    ensures { λ _. ⌜ RowLaws ⌝ }
 {}
