@@ -1,11 +1,10 @@
 -- The order of keys is total.
-use Rattle.std.specs.Prelude.{◌≡◌, ℕ, ◌<◌, ◌≤◌, min, [], ◌∷◌, ◌++◌, length, take, refl}
+use Rattle.std.specs.Prelude.{◌≡◌, ◌≤◌, min, [], ◌∷◌, ◌++◌, length, take, refl}
 use Rattle.std.specs.declared.cmp.Ordering.TheVariants.{Less, Equal, Greater}
 use Rattle.std.specs.declared.cmp.Ordering.{Ordering}
 use Rattle.std.proofs.Common.{sym, ap, ◌∙◌, true≢false, arith}
-use Rattle.std.specs.Cmp.{nat_cmp_total}
-use Rattle.std.specs.Cmp.Lexicographic.{Lex, lexical, slice_cmp}
-use Rattle.std.specs.Ordering.{is_lt, is_gt, ordering_reverse, ordering_then, MatchOrdering, nat_cmp}
+use Rattle.std.specs.Cmp.Lexicographic.{slice_cmp, nat_list_cmp_total}
+use Rattle.std.specs.Ordering.{is_lt, is_gt, ordering_reverse, ordering_then, nat_cmp}
 use Rattle.std.proofs.lemmas.List.{take_at}
 use Rattle.std.proofs.lemmas.Map.Lookups.{exact_bytes}
 use Rattle.order.specs.Keys.{Key, key_order, longest_key}
@@ -26,14 +25,14 @@ own Greater h = absurd (true≢false (ap is_gt h))
 pub key_order_lawful : Lawful key_order
 key_order_lawful = record {
   exact = λ a b h. exact_bytes a b (sym (same_order a b) ∙ h);
-  itself = λ a. same_order a a ∙ own (slice_cmp nat_cmp a a) ((lexical nat_cmp_total).flip a a);
-  turned = λ a b. same_order b a ∙ (lexical nat_cmp_total).flip b a ∙ ap ordering_reverse (sym (same_order a b));
-  chained = λ a b c h g. same_order a c ∙ (lexical nat_cmp_total).trans a b c (sym (same_order a b) ∙ h) (sym (same_order b c) ∙ g);
+  itself = λ a. same_order a a ∙ own (slice_cmp nat_cmp a a) (nat_list_cmp_total.antisymm a a);
+  turned = λ a b. same_order b a ∙ nat_list_cmp_total.antisymm b a ∙ ap ordering_reverse (sym (same_order a b));
+  chained = λ a b c h g. same_order a c ∙ nat_list_cmp_total.trans a b c (sym (same_order a b) ∙ h) (sym (same_order b c) ∙ g);
 }
 
 -- what `cmp` answers of two slices of bytes
-pub said : (a b : Key) (r : Ordering) → Lex (λ (x y : ℕ) (o : Ordering). MatchOrdering o (x < y) (x ≡ y) (y < x)) a b r → r ≡ key_order a b
-said a b r h = (lexical nat_cmp_total).says a b r h ∙ sym (same_order a b)
+pub said : (a b : Key) (r : Ordering) → r ≡ slice_cmp nat_cmp a b → r ≡ key_order a b
+said a b r h = h ∙ sym (same_order a b)
 
 -- a row whose first bytes are the key's
 pub row_reads : (k p q : Key) → length k ≤ longest_key → p ≡ k → take (min (length k) longest_key) (p ++ q) ≡ k

@@ -1,4 +1,6 @@
 // Total orders, and the search for the least of a slice, for every type that has one.
+#![tactic(auto)]
+
 ghost use Rattle.std.specs.Prelude.{◌≡◌, ◌<◌, ◌≤◌, length, IfSome, Some, None, Decides, MatchOption, slice_index_or};
 ghost use Rattle.std.specs.declared.cmp.Ordering.TheVariants.{Less};
 ghost use Rattle.std.specs.declared.cmp.Ordering.{Ordering as Rank};
@@ -30,7 +32,7 @@ pub trait TotalOrder {
 
 // Whether a comes before b.
 fn comes_before<T: TotalOrder>(a: &T, b: &T) -> bool
-    ensures { Decides result (order (reads a.now) (reads b.now) ≡ Less) }
+    ensures { Decides result (T.order (T.reads a.now) (T.reads b.now) ≡ Less) }
 {
     match a.compare(b) {
         Ordering::Less => true,
@@ -42,7 +44,7 @@ fn comes_before<T: TotalOrder>(a: &T, b: &T) -> bool
 fn is_after<T: TotalOrder>(items: &[T], from: Option<usize>, i: usize) -> bool
     requires within { i < length items.now }
     requires known { IfSome from (λ b. b < length items.now) }
-    ensures { (d : T) → Decides result (After order (option_map (λ b. reads (slice_index_or items.now b d)) from) (reads (slice_index_or items.now i d))) }
+    ensures { (d : T) → Decides result (After T.order (option_map (λ b. T.reads (slice_index_or items.now b d)) from) (T.reads (slice_index_or items.now i d))) }
 {
     match from {
         None => true,
@@ -54,7 +56,7 @@ fn is_after<T: TotalOrder>(items: &[T], from: Option<usize>, i: usize) -> bool
 fn beats<T: TotalOrder>(items: &[T], best: Option<usize>, i: usize) -> bool
     requires within { i < length items.now }
     requires known { IfSome best (λ b. b < length items.now) }
-    ensures { (d : T) → Decides result (Beats order best (λ j. reads (slice_index_or items.now j d)) i) }
+    ensures { (d : T) → Decides result (Beats T.order best (λ j. T.reads (slice_index_or items.now j d)) i) }
 {
     match best {
         None => true,
@@ -67,7 +69,7 @@ fn search<T: TotalOrder>(items: &[T], from: Option<usize>) -> Option<usize>
     requires { IfSome from (λ b. b < length items.now) }
     ensures within { IfSome result (λ i. (i < length items.now) × IfSome from (λ b. b < length items.now)) }
     ensures all { from ≡ None → MatchOption result (length items.now ≡ 0) (λ i. i < length items.now) }
-    ensures first { (d : T) → FirstLeast order (After order (option_map (λ b. reads (slice_index_or items.now b d)) from)) (length items.now) (λ j. reads (slice_index_or items.now j d)) result }
+    ensures first { (d : T) → FirstLeast T.order (After T.order (option_map (λ b. T.reads (slice_index_or items.now b d)) from)) (length items.now) (λ j. T.reads (slice_index_or items.now j d)) result }
 {
     let mut best = None;
     for i in 0..items.len() {
@@ -83,7 +85,7 @@ fn search<T: TotalOrder>(items: &[T], from: Option<usize>) -> Option<usize>
 // The index of the least item, the first where several are equal; none of an empty slice.
 pub fn least<T: TotalOrder>(items: &[T]) -> Option<usize>
     ensures within { MatchOption result (length items.now ≡ 0) (λ i. i < length items.now) }
-    ensures first { (d : T) → FirstLeast order (λ _. Unit {0}) (length items.now) (λ j. reads (slice_index_or items.now j d)) result }
+    ensures first { (d : T) → FirstLeast T.order (λ _. Unit {0}) (length items.now) (λ j. T.reads (slice_index_or items.now j d)) result }
 {
     search(items, None)
 }
@@ -91,7 +93,7 @@ pub fn least<T: TotalOrder>(items: &[T]) -> Option<usize>
 // The same of the items that come after the one at `from`; none where there is no such item.
 pub fn least_after<T: TotalOrder>(items: &[T], from: usize) -> Option<usize>
     ensures within { IfSome result (λ i. (i < length items.now) × (from < length items.now)) }
-    ensures first { (d : T) → from < length items.now → FirstLeast order (After order (Some (reads (slice_index_or items.now from d)))) (length items.now) (λ j. reads (slice_index_or items.now j d)) result }
+    ensures first { (d : T) → from < length items.now → FirstLeast T.order (After T.order (Some (T.reads (slice_index_or items.now from d)))) (length items.now) (λ j. T.reads (slice_index_or items.now j d)) result }
 {
     if from >= items.len() {
         return None;

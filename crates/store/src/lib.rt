@@ -1,4 +1,6 @@
 // What a list store means, and the two traits by which it is used: its ends, and over them whole lists.
+#![tactic(auto)]
+
 ghost use Rattle.std.specs.Prelude.{◌≡◌, ℕ, ◌+◌, length};
 ghost use Rattle.order.specs.Keys.{longest_key};
 ghost use Rattle.store.specs.Limits.{longest_value, refusal_number};
@@ -108,7 +110,7 @@ pub trait WholeLists: ListEnds {
 
 // How many elements more fit.
 pub fn room_left<S: ListEnds>(store: &S) -> usize
-    ensures { result + elements (lists store.now) ≡ room store.now }
+    ensures { result + elements (S.lists store.now) ≡ S.room store.now }
 {
     store.capacity() - store.held()
 }
