@@ -1,5 +1,7 @@
 // A day at a build farm, on a store for a few names: compilers push the names of finished objects on the lists of two
 // programs, a link worker takes them in order, the store fills up, and what is left is listed. Each step is a sentence.
+#![tactic(auto)]
+
 use flat::{Record, prepare};
 use std::io;
 use store::{LONGEST_KEY, LONGEST_VALUE, ListEnds, Refusal, Side, WholeLists};

@@ -1,5 +1,5 @@
 -- A flat store by its rows: how many they are, what stands at a spot, and what a change of the rows makes of the lists.
-use Rattle.std.proofs.Common.{◌≡◌, ℕ, ◌+◌, ◌-◌, ◌<◌, ◌≤◌, List, [], ◌∷◌, ◌++◌, length, get_or, take, set, Some, sym, refl, ap, ◌∙◌, arith}
+use Rattle.std.proofs.Common.{◌≡◌, ℕ, ◌<◌, ◌≤◌, List, [], ◌∷◌, ◌++◌, length, get_or, take, set, Some, sym, refl, ap, ◌∙◌, arith}
 use Rattle.std.specs.List.{insert, remove}
 use Rattle.std.proofs.lemmas.List.{length-map, length-take-le, get_or-map, get_or-take, take_all, drop_all}
 use Rattle.order.specs.Keys.{Key, longest_key}
@@ -14,7 +14,7 @@ use Rattle.store.proofs.RowLaws.{at_rows, held_rows, rows_left, rows_right}
 use Rattle.store.proofs.SpotLaws.{spot_row, spot_some, spot_few, rows_removed, rows_set, rows_inserted}
 use Rattle.flat.specs.declared.table.Record.{Record}
 use Rattle.flat.specs.declared.table.Flat.{Flat}
-use Rattle.flat.specs.Records.{key_of, value_of, row, rows, rows_in}
+use Rattle.flat.specs.Records.{key_of, value_of, row, rows_in}
 use Rattle.flat.specs.Changes.{joined_rows, end_of}
 use Rattle.flat.proofs.Ranks.{blank, same_name, as_many}
 

@@ -1,4 +1,6 @@
 // A list store over one table of records that the host lends: a key's list is its records in the table's order.
+#![tactic(auto)]
+
 ghost use Rattle.std.specs.Prelude.{◌≡◌, ◌+◌, ◌<◌, ◌≤◌, false, [], length, set as changed, Some, Ok, Err, Decides};
 ghost use Rattle.std.specs.List.{insert, remove};
 ghost use Rattle.order.specs.Keys.{key_in, longest_key};

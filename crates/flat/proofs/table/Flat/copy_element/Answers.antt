@@ -5,8 +5,8 @@ use Rattle.flat.specs.Records.{value_of}
 use Rattle.flat.proofs.Tables.{in_table, copied_there}
 use Rattle.flat.proofs.table.Flat.copy_element.Goals as goal
 
-pub offset-bounds-self-i : goal.offset-bounds-self-i
-offset-bounds-self-i c = let l = in_table c.args.self.now c.args.key.now c.args.index c.position-i.result c.position-i.ensures c.requires in search rules
+pub offset_bounds-self-i : goal.offset_bounds-self-i
+offset_bounds-self-i c = let l = in_table c.args.self.now c.args.key.now c.args.index c.position-i.result c.position-i.ensures c.requires in search rules
 
 pub bounds-self-i : goal.bounds-self-i
 bounds-self-i c = omega (arith, in_table c.args.self.now c.args.key.now c.args.index c.position-i.result c.position-i.ensures c.requires, c.args.self.now.fits)

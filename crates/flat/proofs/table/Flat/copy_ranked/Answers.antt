@@ -3,8 +3,8 @@ use Rattle.std.proofs.lemmas.List.{get_or_default}
 use Rattle.flat.proofs.Tables.{ranked_within, key_there}
 use Rattle.flat.proofs.table.Flat.copy_ranked.Goals as goal
 
-pub offset-bounds-self-i : goal.offset-bounds-self-i
-offset-bounds-self-i c = let l = ranked_within c.args.self.now c.args.rank c.in-Some.i c.in-Some.ensures in search rules
+pub offset_bounds-self-i : goal.offset_bounds-self-i
+offset_bounds-self-i c = let l = ranked_within c.args.self.now c.args.rank c.in-Some.i c.in-Some.ensures in search rules
 
 pub bounds-self-i : goal.bounds-self-i
 bounds-self-i c = omega (arith, ranked_within c.args.self.now c.args.rank c.in-Some.i c.in-Some.ensures, c.args.self.now.fits)
