@@ -1,7 +1,7 @@
 -- What the writers leave in their buffer.
 use Rattle.std.proofs.Common.{◌≡◌, ℕ, ◌+◌, ◌-◌, ◌/◌, ◌%◌, ◌^◌, ◌<◌, ◌≤◌, List, [], ◌∷◌, ◌++◌, length, get_or, drop, set, ℤ, pos, negsuc, sym, refl, ap, ◌∙◌, append_assoc, arith, w64, SFits, of_z}
 use borrow.Rule.Slice.PartMut.{put_mid}
-use lib.Signed.{mag}
+use Rattle.std.specs.Int.Signed.{mag}
 use Rattle.std.proofs.lemmas.List.{drop_more, set_at, length-append}
 use Rattle.store.specs.Answers.{over}
 use Rattle.entry.specs.Entry.{residue, low, number}

@@ -1,7 +1,7 @@
 -- What the writes to the bytes of a listpack leave.
 use Rattle.std.proofs.Common.{◌≡◌, ℕ, ◌+◌, ◌-◌, ◌/◌, ◌%◌, ◌≤◌, List, [], ◌∷◌, ◌++◌, length, take, drop, set, sym, refl, ap, ◌∙◌, append_assoc, arith}
 use borrow.Rule.Slice.PartMut.{put_mid}
-use lib.Seq.{paste}
+use Rattle.std.proofs.Math.Seq.{paste}
 use Rattle.std.proofs.lemmas.List.{length-append, length-drop, length-take-le, take-append-le, take_at, take-take, drop_at, drop-drop}
 use Rattle.std.proofs.lemmas.Slice.{between_is}
 use Rattle.listpack.specs.Layout.{most_bytes, header}

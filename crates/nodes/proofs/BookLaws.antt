@@ -1,7 +1,7 @@
 -- What records of nodes show: the list of a key, how many elements, and what changes when one record is written over.
 use Rattle.std.proofs.Common.{◌≡◌, ℕ, zero, suc, ◌+◌, ◌<◌, ◌≤◌, Bool, true, false, cond, ltb, List, [], ◌∷◌, ◌++◌, map, length, set, sym, refl, ap, ◌∙◌, subst, ⊎_elim, arith}
 use Rattle.std.specs.Ordering.{is_eq}
-use Rattle.std.specs.List.{AllByRecursion as All}
+use Rattle.std.specs.List.{AllByRecursion}
 use Rattle.std.proofs.lemmas.List.{append-nil, length-append, length-map, length-set, get_or-set_same, get_or-set_other}
 use Rattle.std.proofs.lemmas.List.Sums.{sum_by-cons}
 use Rattle.std.proofs.lemmas.Bool.{ltb-true, cases_eq, cond_both}
@@ -131,12 +131,12 @@ all_set_nodes [] e k ns l = absurd (omega arith)
 all_set_nodes (r ∷ b) zero k ns l = omega (arith, length-append ns (all_nodes b), length-append r.1 (all_nodes b))
 all_set_nodes (r ∷ b) (suc e) k ns l = omega (arith, length-append r.1 (all_nodes b), length-append r.1 (all_nodes (set b e (k, ns))), all_set_nodes b e k ns (omega arith))
 
-filled_all : (b : Book) → All (λ r. Filled r.1) b → Filled (all_nodes b)
+filled_all : (b : Book) → AllByRecursion (λ r. Filled r.1) b → Filled (all_nodes b)
 unfolding all_nodes
 filled_all [] f = tt
 filled_all (r ∷ b) f = filled_append r.1 (all_nodes b) f.0 (filled_all b f.1)
 
-pub few_all : (b : Book) → All (λ r. Filled r.1) b → length (all_nodes b) ≤ length (flat (all_nodes b))
+pub few_all : (b : Book) → AllByRecursion (λ r. Filled r.1) b → length (all_nodes b) ≤ length (flat (all_nodes b))
 few_all b f = few_nodes (all_nodes b) (filled_all b f)
 
 pub used_few : (b : Book) → in_use b ≤ length (all_nodes b)
@@ -148,11 +148,11 @@ used_few (r ∷ b) =
 
 -- ---- rows that a store can hold
 
-rows_of_one : (k : Key) (vs : List Value) → length k ≤ longest_key → All (λ v. length v ≤ longest_value) vs → All Short (map (λ v. (k, v)) vs)
+rows_of_one : (k : Key) (vs : List Value) → length k ≤ longest_key → AllByRecursion (λ v. length v ≤ longest_value) vs → AllByRecursion Short (map (λ v. (k, v)) vs)
 rows_of_one k [] l h = tt
 rows_of_one k (v ∷ vs) l h = ((l, h.0), rows_of_one k vs l h.1)
 
-pub rows_short : (b : Book) → All (λ r. (length r.0 ≤ longest_key) × All (λ v. length v ≤ longest_value) (flat r.1)) b → All Short (rows_in_book b)
+pub rows_short : (b : Book) → AllByRecursion (λ r. (length r.0 ≤ longest_key) × AllByRecursion (λ v. length v ≤ longest_value) (flat r.1)) b → AllByRecursion Short (rows_in_book b)
 unfolding rows_in_book
 rows_short [] h = tt
 rows_short (r ∷ b) h = All-append Short (map (λ v. (r.0, v)) (flat r.1)) (rows_in_book b) (rows_of_one r.0 (flat r.1) h.0.0 h.0.1) (rows_short b h.1)

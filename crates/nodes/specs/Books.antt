@@ -1,7 +1,7 @@
 -- What the records of a table of lists show, in the table's order: each has a key and the nodes of its list. A record that is not in use has no nodes.
 use Rattle.std.specs.Prelude.{◌≡◌, ℕ, ◌+◌, ◌<◌, ◌≤◌, cond, List, [], ◌∷◌, ◌++◌, map, length, count_by, ◌≢◌, nat_lt, slice_index_or, slice_set}
 use Rattle.std.specs.Ordering.{is_eq}
-use Rattle.std.specs.List.{AllByRecursion as All}
+use Rattle.std.specs.List.{AllByRecursion}
 use Rattle.order.specs.Keys.{Key, key_order}
 use Rattle.store.specs.Lists.{Lists, at, put, held}
 use Rattle.store.specs.Rows.{Row, lists_of}
@@ -64,4 +64,4 @@ pub record BookLaws : Type 0 where
   pub nodes : (b : Book) (e : ℕ) (k : Key) (ns : Nodes) → e < length b → length (all_nodes (slice_set b e (k, ns))) + length (record_at b e).1 ≡ length (all_nodes b) + length ns
   -- no more records are in use than there are nodes, and no more nodes than values
   pub few_used : (b : Book) → in_use b ≤ length (all_nodes b)
-  pub few : (b : Book) → All (λ r. Filled r.1) b → length (all_nodes b) ≤ length (flat (all_nodes b))
+  pub few : (b : Book) → AllByRecursion (λ r. Filled r.1) b → length (all_nodes b) ≤ length (flat (all_nodes b))

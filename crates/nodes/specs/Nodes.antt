@@ -1,7 +1,7 @@
 -- A list cut into nodes, and what each change of the list makes of them. Which values a node has room for is left open: a rule is told by `tk n v` whether the node n takes v as
 -- one more value, and by `swap n j v` whether it takes v in the place of its value at j.
 use Rattle.std.specs.Prelude.{◌≡◌, ℕ, ◌-◌, ◌<◌, ◌≤◌, Bool, true, cond, List, [], ◌∷◌, ◌++◌, length, take, drop, nat_lt, slice_set}
-use Rattle.std.specs.List.{insert, remove, AllByRecursion as All}
+use Rattle.std.specs.List.{insert, remove, AllByRecursion}
 use Rattle.store.specs.declared.Side.{Side}
 use Rattle.store.specs.declared.Side.TheVariants.{Left, Right}
 use Rattle.store.specs.Lists.{Value}
@@ -17,7 +17,7 @@ flat (n ∷ ns) = n ++ flat ns
 
 -- no node is empty
 abbrev pub Filled : Nodes → Type 0
-Filled ns = All (λ n. 0 < length n) ns
+Filled ns = AllByRecursion (λ n. 0 < length n) ns
 
 -- ---- ends
 

@@ -1,5 +1,7 @@
 // Lists cut into nodes: what a change of a list makes of its nodes, and which lists the records of a table show whose nodes they are. Definitions and laws, with no code that runs: stores
 // that keep their lists in nodes are proved against them.
+#![tactic(auto)]
+
 ghost use Rattle.nodes.specs.Nodes.{NodeLaws};
 ghost use Rattle.nodes.specs.Books.{BookLaws};
 

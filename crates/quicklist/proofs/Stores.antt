@@ -41,9 +41,25 @@ whole_of q =
       named = q.named;
     }
 
-pub kept : (t : Tables) → Whole t → Sized t × (Within t × (Onward t × (Backward t × (NodesFree t × (NodesOnce t × (NodesAll t × (ListsFree t × (ListsOnce t × (ListsAll t × (Loaded t × (Counted t × (Totalled t × (Named t × Unit {0})))))))))))))
-kept t w =
-    (w.sized, (w.within, (λ e l. leads_from (from ((links_of t).first e) (links_of t).next) 0 (numbers t e) (w.linked.ahead e l), (λ e l. leads_from (from ((links_of t).last e) (links_of t).prev) 0 (reverse (numbers t e)) (w.linked.back e l), (leads_from (from (links_of t).free (links_of t).next) 0 (free_nodes t) w.linked.freed, (w.linked.each, (w.linked.full, (leads_from (from t.free_list (next_list t.lists.now)) 0 (free_lists t) w.pooled.freed, (w.pooled.each, (w.pooled.full, (w.loaded, (w.counted, (w.totalled, (w.named, tt))))))))))))))
+-- a field for each ghost field of a quicklist
+pub kept : (t : Tables) → Whole t
+    → record { sized : Sized t; within : Within t; onward : Onward t; backward : Backward t; nodes_free : NodesFree t; nodes_once : NodesOnce t; nodes_all : NodesAll t; lists_free : ListsFree t; lists_once : ListsOnce t; lists_all : ListsAll t; loaded : Loaded t; counted : Counted t; totalled : Totalled t; named : Named t }
+kept t w = record {
+  sized = w.sized;
+  within = w.within;
+  onward = λ e l. leads_from (from ((links_of t).first e) (links_of t).next) 0 (numbers t e) (w.linked.ahead e l);
+  backward = λ e l. leads_from (from ((links_of t).last e) (links_of t).prev) 0 (reverse (numbers t e)) (w.linked.back e l);
+  nodes_free = leads_from (from (links_of t).free (links_of t).next) 0 (free_nodes t) w.linked.freed;
+  nodes_once = w.linked.each;
+  nodes_all = w.linked.full;
+  lists_free = leads_from (from t.free_list (next_list t.lists.now)) 0 (free_lists t) w.pooled.freed;
+  lists_once = w.pooled.each;
+  lists_all = w.pooled.full;
+  loaded = w.loaded;
+  counted = w.counted;
+  totalled = w.totalled;
+  named = w.named;
+}
 
 -- the lists after a change, where the nodes are cut as a rule says and hold what they should
 pub put_as : (t t' : Tables) (k : Key) (ns : Nodes) (vs : List Value) → Changed t t' k ns → flat ns ≡ vs → lists_of t' ≡ put (lists_of t) k vs

@@ -1,7 +1,7 @@
 -- What holds of the lists of every quicklist store.
 use Rattle.std.specs.Prelude.{◌≡◌, ℕ, zero, suc, ◌-◌, ◌<◌, ◌≤◌, List, [], ◌∷◌, map, length, slice_index_or, refl}
 use Rattle.std.proofs.Common.{sym, ap, ◌∙◌, arith, length-take, length-append}
-use Rattle.std.specs.List.{AllByRecursion as All}
+use Rattle.std.specs.List.{AllByRecursion}
 use Rattle.std.proofs.lemmas.List.{get_or-map, length-map}
 use Rattle.std.proofs.ByRecursion.{All-append, All-from_get_or}
 use Rattle.order.specs.Keys.{Key, key_in, longest_key}
@@ -35,16 +35,16 @@ nodes_for q k = nodes_in q.tables k
 
 -- ---- keys and values are short
 
-values_short : (xs : List Node) (k : ℕ) → All (λ v. length v ≤ longest_value) (slice_index_or (map (λ (x : Node). values_in x.pack) xs) k [])
+values_short : (xs : List Node) (k : ℕ) → AllByRecursion (λ v. length v ≤ longest_value) (slice_index_or (map (λ (x : Node). values_in x.pack) xs) k [])
 values_short [] k = tt
 values_short (x ∷ xs) zero = All-from_get_or (λ v. length v ≤ longest_value) (values_in x.pack) [] (λ i l. held_short x.pack i)
 values_short (x ∷ xs) (suc k) = values_short xs k
 
-flat_short : (xs : List Node) (ns : List ℕ) → All (λ v. length v ≤ longest_value) (flat (map (values_at xs) ns))
+flat_short : (xs : List Node) (ns : List ℕ) → AllByRecursion (λ v. length v ≤ longest_value) (flat (map (values_at xs) ns))
 flat_short xs [] = tt
 flat_short xs (n ∷ ns) = All-append (λ v. length v ≤ longest_value) (values_at xs n) (flat (map (values_at xs) ns)) (values_short xs (n - 1)) (flat_short xs ns)
 
-records_short : (t : Tables) (rs : List ListRecord) → All (λ (r : Key × Nodes). (length r.0 ≤ longest_key) × All (λ v. length v ≤ longest_value) (flat r.1)) (map (λ (r : ListRecord). (key_in r.name, map (values_at t.nodes.now) (chain (links_of t).next (room t) r.first))) rs)
+records_short : (t : Tables) (rs : List ListRecord) → AllByRecursion (λ (r : Key × Nodes). (length r.0 ≤ longest_key) × AllByRecursion (λ v. length v ≤ longest_value) (flat r.1)) (map (λ (r : ListRecord). (key_in r.name, map (values_at t.nodes.now) (chain (links_of t).next (room t) r.first))) rs)
 records_short t [] = tt
 records_short t (r ∷ rs) = ((simp length-take (omega arith), flat_short t.nodes.now (chain (links_of t).next (room t) r.first)), records_short t rs)
 

@@ -1,4 +1,6 @@
 // The records of a store of lists: one for each list, in a table that the host lends. The record of a key is found by a scan, the key at a rank by the search for the least key after another.
+#![tactic(auto)]
+
 ghost use Rattle.std.specs.Prelude.{◌≡◌, ℕ, ◌+◌, ◌<◌, ◌≤◌, [], length, Some, Decides, Option as Maybe, ◌≢◌};
 ghost use Rattle.order.specs.Keys.{Key, key_in};
 ghost use Rattle.records.specs.Records.{Has, Found, Ranked, reading_of, used_order};

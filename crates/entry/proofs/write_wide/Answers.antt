@@ -1,5 +1,5 @@
 use Rattle.std.proofs.Common.{◌≡◌, take, refl, ap, ◌∙◌, arith, w64, to_z, of_z}
-use native.Mathlib.Nat.{sub-zero}
+use Rattle.std.proofs.Math.Nat.{sub-zero}
 use Rattle.std.proofs.lemmas.Int.{to_z-of_z}
 use Rattle.entry.specs.Entry.{low}
 use Rattle.entry.proofs.Bytes.{take_low}

@@ -22,8 +22,8 @@ insert_in-requires c =
       short = c.requires.short;
     }
 
-pub overflow-add-it : goal.overflow-add-it
-overflow-add-it c =
+pub overflow_add-it : goal.overflow_add-it
+overflow_add-it c =
     let s = c.args.self.now in
     record { fits = omega (arith, it_small s c.insert_in.new.self c.args.e (added takes (nodes_of s c.args.e) c.args.index c.args.value.now) blank c.requires.whole c.requires.which c.insert_in.ensures.nodes) }
 

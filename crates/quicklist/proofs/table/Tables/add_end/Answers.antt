@@ -11,8 +11,8 @@ push_in-requires c =
     let w = c.requires.whole in
     record { linked = w.linked; same = w.sized.0; which = c.requires.which; more = node_left c.args.self.now w c.requires.more; short = c.requires.short }
 
-pub overflow-add-it : goal.overflow-add-it
-overflow-add-it c =
+pub overflow_add-it : goal.overflow_add-it
+overflow_add-it c =
     let s = c.args.self.now in
     record { fits = omega (arith, it_small s c.push_in.new.self c.args.e (pushed takes c.args.side (nodes_of s c.args.e) c.args.value.now) blank c.requires.whole c.requires.which c.push_in.ensures.nodes) }
 

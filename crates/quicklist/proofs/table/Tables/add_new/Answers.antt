@@ -3,8 +3,8 @@ use Rattle.order.specs.Keys.{key_in}
 use Rattle.quicklist.proofs.Wholes.{node_left, list_left, new_within, new_none, created}
 use Rattle.quicklist.proofs.table.Tables.add_new.Goals as goal
 
-pub overflow-sub-e : goal.overflow-sub-e
-overflow-sub-e c = list_left c.args.self.now c.requires.whole c.requires.more
+pub overflow_sub-e : goal.overflow_sub-e
+overflow_sub-e c = list_left c.args.self.now c.requires.whole c.requires.more
 
 pub push_in-requires : goal.push_in-requires
 push_in-requires c =

@@ -5,8 +5,8 @@ use Rattle.quicklist.proofs.Writes.{read}
 use Rattle.quicklist.proofs.Splices.{inside, close_sound, close_nodes}
 use Rattle.quicklist.proofs.table.Tables.close.Goals as goal
 
-pub overflow-sub-slot : goal.overflow-sub-slot
-overflow-sub-slot c = omega (arith, (inside c.args.self.now c.args.e c.args.n c.requires.linked c.requires.same c.requires.which c.requires.there).some)
+pub overflow_sub-slot : goal.overflow_sub-slot
+overflow_sub-slot c = omega (arith, (inside c.args.self.now c.args.e c.args.n c.requires.linked c.requires.same c.requires.which c.requires.there).some)
 
 pub bounds-self-slot : goal.bounds-self-slot
 bounds-self-slot c = let i = inside c.args.self.now c.args.e c.args.n c.requires.linked c.requires.same c.requires.which c.requires.there in omega (arith, i.some, i.within)

@@ -16,8 +16,8 @@ count_in-requires c =
     let w = within (room s) (links_of s) c.requires.linked c.args.e n c.requires.which (omega (arith, d.there)) in
     record { some = w.0; within = w.1 }
 
-pub overflow-sub-before : goal.overflow-sub-before
-overflow-sub-before c =
+pub overflow_sub-before : goal.overflow_sub-before
+overflow_sub-before c =
     let s = c.args.self.now in
     let n = (get_or s.lists.now c.args.e blank).last in
     let some = some_node (nodes_of s c.args.e) (omega (arith, c.requires.there)) in

@@ -5,19 +5,19 @@ use Rattle.quicklist.proofs.table.Tables.take_out.Goals as goal
 pub remove_in-requires : goal.remove_in-requires
 remove_in-requires c = let w = c.requires.whole in record { linked = w.linked; same = w.sized.0; which = c.requires.which; counted = w.counted c.args.e c.requires.which; there = c.requires.there }
 
-pub overflow-sub-it : goal.overflow-sub-it
-overflow-sub-it c = old_some c.args.self.now c.remove_in.new.self c.remove_in.new.self c.args.e c.args.index c.requires.whole c.requires.which c.requires.there c.remove_in.ensures.nodes c.remove_in.ensures.linked
+pub overflow_sub-it : goal.overflow_sub-it
+overflow_sub-it c = old_some c.args.self.now c.remove_in.new.self c.remove_in.new.self c.args.e c.args.index c.requires.whole c.requires.which c.requires.there c.remove_in.ensures.nodes c.remove_in.ensures.linked
 
-pub overflow-sub-it-2 : goal.overflow-sub-it-2
-overflow-sub-it-2 c = old_some c.args.self.now c.remove_in.new.self c.remove_in.new.self c.args.e c.args.index c.requires.whole c.requires.which c.requires.there c.remove_in.ensures.nodes c.remove_in.ensures.linked
+pub overflow_sub-it-2 : goal.overflow_sub-it-2
+overflow_sub-it-2 c = old_some c.args.self.now c.remove_in.new.self c.remove_in.new.self c.args.e c.args.index c.requires.whole c.requires.which c.requires.there c.remove_in.ensures.nodes c.remove_in.ensures.linked
 
-pub overflow-sub-self : goal.overflow-sub-self
-overflow-sub-self c =
+pub overflow_sub-self : goal.overflow_sub-self
+overflow_sub-self c =
     let h = held_some c.args.self.now c.remove_in.new.self c.remove_in.new.self c.args.e c.args.index c.requires.whole c.requires.which c.requires.there c.remove_in.ensures.nodes c.remove_in.ensures.linked in
     omega (arith, h, c.write_record.ensures.held)
 
-pub overflow-sub-self-2 : goal.overflow-sub-self-2
-overflow-sub-self-2 c =
+pub overflow_sub-self-2 : goal.overflow_sub-self-2
+overflow_sub-self-2 c =
     let h = held_some c.args.self.now c.remove_in.new.self c.remove_in.new.self c.args.e c.args.index c.requires.whole c.requires.which c.requires.there c.remove_in.ensures.nodes c.remove_in.ensures.linked in
     omega (arith, h, c.write_record-2.ensures.held)
 

@@ -15,8 +15,8 @@ count_in-here-requires c = let w = walk_within c.args.self.now c.args.e c.args.i
 pub returns-then-place-here : goal.returns-then-place-here
 returns-then-place-here c = walk_found c.args.self.now c.args.e c.args.index c.requires.linked c.requires.which _ _ _ c.loop-k.invariant (omega (arith, c.if-place-here.true, c.count_in-here.ensures))
 
-pub overflow-sub-node : goal.overflow-sub-node
-overflow-sub-node c = let w = walk_within c.args.self.now c.args.e c.args.index c.requires.linked c.requires.which _ _ _ c.loop-k.invariant in omega (arith, w.0)
+pub overflow_sub-node : goal.overflow_sub-node
+overflow_sub-node c = let w = walk_within c.args.self.now c.args.e c.args.index c.requires.linked c.requires.which _ _ _ c.loop-k.invariant in omega (arith, w.0)
 
 pub bounds-self-node : goal.bounds-self-node
 bounds-self-node c = let w = walk_within c.args.self.now c.args.e c.args.index c.requires.linked c.requires.which _ _ _ c.loop-k.invariant in omega (arith, w.0, w.1)
