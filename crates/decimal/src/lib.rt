@@ -1,4 +1,6 @@
 // Numbers of 64 bits as decimal text: read from the one text that a number has, and written as that text.
+#![tactic(auto)]
+
 ghost use Rattle.std.specs.Prelude.{◌≡◌, ◌+◌, ◌-◌, ◌^◌, ◌<◌, ◌≤◌, ◌∷◌, ◌++◌, length, drop, decimal};
 ghost use Rattle.std.specs.Fmt.{signed_decimal};
 ghost use Rattle.decimal.specs.Integer.{longest_text, plain, number, natural, above, below, integer, TextLaws};

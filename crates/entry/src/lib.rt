@@ -1,9 +1,10 @@
 // The entry of a value: the bytes in which a packed list keeps it. An integer text is kept as its integer in the fewest bytes
 // that hold it, any other text as it is; the length of the encoding and data stands last.
+#![tactic(auto)]
+
 ghost use Rattle.std.specs.Prelude.{◌≡◌, ◌+◌, ◌*◌, ◌%◌, ◌^◌, ◌<◌, ◌≤◌, ◌∷◌, length, take, drop, IfSome};
 ghost use Rattle.std.specs.Int.Signed.{mag};
-ghost use Rattle.std.specs.Int.{w64};
-ghost use Rattle.std.proofs.Common.{of_z};
+ghost use Rattle.std.specs.Int.{w64, cast_unsigned};
 ghost use Rattle.std.specs.Fmt.{signed_decimal};
 ghost use Rattle.decimal.specs.Integer.{integer, longest_text};
 ghost use Rattle.store.specs.Limits.{longest_value};
@@ -43,7 +44,7 @@ fn magnitude(z: i64) -> u64
 fn write_wide(code: u8, n: usize, z: i64, out: &mut [u8; LONGEST_ENTRY]) -> usize
     requires { n ≤ 8 }
     ensures size { result ≡ n + 1 }
-    ensures bytes { out.new ≡ over out.old (code ∷ low n (of_z w64 z)) }
+    ensures bytes { out.new ≡ over out.old (code ∷ low n (cast_unsigned w64 z)) }
 {
     let bytes = z.to_le_bytes();
     out[0] = code;

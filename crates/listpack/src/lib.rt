@@ -1,4 +1,6 @@
 // Listpacks of at most 508 bytes, read and changed in place.
+#![tactic(auto)]
+
 ghost use Rattle.std.specs.Prelude.{◌≡◌, ◌≤◌, ◌&&◌, [], ◌∷◌, ◌++◌, length, set as with_at, if◌then◌else◌, nat_le, nat_lt};
 ghost use Rattle.std.specs.List.{insert, remove};
 ghost use Rattle.store.specs.Limits.{longest_value};

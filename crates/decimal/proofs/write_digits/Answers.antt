@@ -6,8 +6,8 @@ use Rattle.decimal.proofs.write_digits.Goals as goal
 pub loop-rest-init : goal.loop-rest-init
 loop-rest-init c = line_none c.args.n c.args.line.now (omega arith) c.told-line
 
-pub overflow-sub-at-in-loop-rest : goal.overflow-sub-at-in-loop-rest
-overflow-sub-at-in-loop-rest c = line_room _ _ _ _ c.loop-rest.invariant (omega arith)
+pub overflow_sub-at-in-loop-rest : goal.overflow_sub-at-in-loop-rest
+overflow_sub-at-in-loop-rest c = line_room _ _ _ _ c.loop-rest.invariant (omega arith)
 
 pub loop-rest-preserved : goal.loop-rest-preserved
 loop-rest-preserved c = line_more _ _ _ _ c.loop-rest.invariant (omega arith)

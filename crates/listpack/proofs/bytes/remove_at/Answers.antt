@@ -3,8 +3,8 @@ use Rattle.listpack.specs.Layout.{values}
 use Rattle.listpack.proofs.Sizes.{count_few}
 use Rattle.listpack.proofs.bytes.remove_at.Goals as goal
 
-pub overflow-add-index : goal.overflow-add-index
-overflow-add-index c = let n = count_few (values c.args.bytes.now) c.requires.lawful.2 c.requires.lawful.1 in omega arith
+pub overflow_add-index : goal.overflow_add-index
+overflow_add-index c = let n = count_few (values c.args.bytes.now) c.requires.lawful.2 c.requires.lawful.1 in omega arith
 
 pub returns : goal.returns
 returns c =
