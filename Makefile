@@ -2,10 +2,9 @@
 .PHONY: run test
 
 run:
-	@echo "Proving and building the demo (some two minutes on a fresh machine; nothing to do when it has been built) .."
+	@echo "Proving and building the demo (a minute or two on a fresh machine; nothing to do when it has been built) .."
 	@mkdir -p target
-	@rt check demo > target/run.log 2>&1 || { cat target/run.log; exit 1; }
-	@target/bin/demo
+	@cd crates/demo && rt run 2> ../../target/run.log || { cat ../../target/run.log; exit 1; }
 
 test:
 	.ci/run
