@@ -1,4 +1,6 @@
 // A list store over two tables that the host lends: nodes, each with a listpack of values, and list records. A list is a chain of nodes.
+#![tactic(auto)]
+
 ghost use Rattle.std.specs.Prelude.{◌≡◌, ◌<◌, ◌≤◌, false, [], length, set as with_at, Some, Ok, Err, Decides};
 ghost use Rattle.std.specs.List.{insert, remove};
 ghost use Rattle.order.specs.Keys.{key_in, longest_key};
