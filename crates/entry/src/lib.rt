@@ -220,7 +220,8 @@ fn from_low(digits: &[u8]) -> u64
 
 // The integer of a two's complement whose sign bit is `sign`.
 fn from_bits(sign: u64, bits: u64) -> i64
-    requires { (bits < 2 * sign) × (sign ≤ 2 ^ 63) }
+    requires fits { bits < 2 * sign }
+    requires most { sign ≤ 2 ^ 63 }
     ensures { result ≡ back sign bits }
 {
     if bits < sign {
@@ -231,7 +232,9 @@ fn from_bits(sign: u64, bits: u64) -> i64
 
 // The integer of the bytes after the first.
 fn from_data(coded: &[u8], sign: u64) -> i64
-    requires { (0 < length coded.now) × ((length coded.now ≤ 9) × (2 * sign * 256 ≡ 256 ^ length coded.now)) }
+    requires some { 0 < length coded.now }
+    requires few { length coded.now ≤ 9 }
+    requires spans { 2 * sign * 256 ≡ 256 ^ length coded.now }
     ensures { result ≡ back sign (unlow (drop 1 coded.now)) }
 {
     let bits = from_low(behind(coded, 1));
@@ -240,7 +243,9 @@ fn from_data(coded: &[u8], sign: u64) -> i64
 
 // An integer behind the encoding `code`, unless a shorter one has it.
 fn read_wide(coded: &[u8], code: u8, sign: u64, least: u64) -> Option<i64>
-    requires { (0 < length coded.now) × ((length coded.now ≤ 9) × (2 * sign * 256 ≡ 256 ^ length coded.now)) }
+    requires some { 0 < length coded.now }
+    requires few { length coded.now ≤ 9 }
+    requires spans { 2 * sign * 256 ≡ 256 ^ length coded.now }
     ensures { result ≡ wide_in code sign least coded.now }
 {
     if coded[0] != code {

@@ -1,5 +1,5 @@
 // The bytes of a listpack: what is read from them and written to them.
-ghost use Rattle.std.specs.Prelude.{◌≡◌, ◌+◌, ◌-◌, ◌*◌, ◌<◌, ◌≤◌, ◌&&◌, [], ◌∷◌, ◌++◌, length, take, drop, set as with_at, if◌then◌else◌, Some, nat_le};
+ghost use Rattle.std.specs.Prelude.{◌≡◌, ◌+◌, ◌-◌, ◌*◌, ◌<◌, ◌≤◌, ◌&&◌, [], ◌∷◌, ◌++◌, length, take, drop, slice_set, if◌then◌else◌, Some, nat_le};
 ghost use Rattle.std.specs.List.{insert, remove};
 ghost use Rattle.store.specs.Limits.{longest_value};
 ghost use Rattle.store.specs.Answers.{Copied};
@@ -199,7 +199,7 @@ pub(crate) fn put_over(bytes: &mut [u8; MOST_BYTES], index: usize, value: &[u8])
     requires within { index < length (values bytes.old) }
     ensures lawful { Lawful bytes.new }
     ensures told { result ≡ nat_le (length value.now) longest_value && swaps (values bytes.old) index value.now }
-    ensures left { values bytes.new ≡ (if result then with_at (values bytes.old) index value.now else values bytes.old) }
+    ensures left { values bytes.new ≡ (if result then slice_set (values bytes.old) index value.now else values bytes.old) }
 {
     put(bytes, index, index + 1, value)
 }

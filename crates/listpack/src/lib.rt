@@ -1,7 +1,7 @@
 // Listpacks of at most 508 bytes, read and changed in place.
 #![tactic(auto)]
 
-ghost use Rattle.std.specs.Prelude.{◌≡◌, ◌≤◌, ◌&&◌, [], ◌∷◌, ◌++◌, length, set as with_at, if◌then◌else◌, nat_le, nat_lt};
+ghost use Rattle.std.specs.Prelude.{◌≡◌, ◌≤◌, ◌&&◌, [], ◌∷◌, ◌++◌, length, slice_set, if◌then◌else◌, nat_le, nat_lt};
 ghost use Rattle.std.specs.List.{insert, remove};
 ghost use Rattle.store.specs.Limits.{longest_value};
 ghost use Rattle.store.specs.Answers.{Copied};
@@ -88,7 +88,7 @@ impl Listpack {
     // Puts a value in the place of the one at an index; tells whether it could.
     pub fn replace(&mut self, index: usize, value: &[u8]) -> bool
         ensures told { result ≡ nat_le (length value.now) longest_value && (nat_lt index (length (values_in self.old)) && swaps (values_in self.old) index value.now) }
-        ensures left { values_in self.new ≡ (if result then with_at (values_in self.old) index value.now else values_in self.old) }
+        ensures left { values_in self.new ≡ (if result then slice_set (values_in self.old) index value.now else values_in self.old) }
     {
         if index >= self.count() {
             return false;

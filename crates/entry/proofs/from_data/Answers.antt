@@ -13,8 +13,8 @@ from_bits-requires c =
     let p : 256 ^ n ≡ 256 ^ (n - 1) * 256 = ap (λ k. 256 ^ k) m ∙ pow-suc 256 (n - 1) in
     let e = c.from_low-bits.ensures.few in
     let d = ap (λ bs. 256 ^ length bs) c.behind.ensures.bytes in
-    let q : 256 ^ n ≤ 256 ^ 9 = pow-le-pow_right {n = 256} (omega arith) c.requires.1.0 in
-    (omega (arith, ap (λ k. 256 ^ k) l, c.requires.1.1), omega (arith, c.requires.1.1))
+    let q : 256 ^ n ≤ 256 ^ 9 = pow-le-pow_right {n = 256} (omega arith) c.requires.few in
+    record { fits = omega (arith, ap (λ k. 256 ^ k) l); most = omega arith }
 
 pub returns : goal.returns
 returns c =
