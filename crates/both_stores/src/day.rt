@@ -1,6 +1,6 @@
 // The day: compilers push the names of finished objects on the lists of two programs, and on a third list what has failed and
 // with which status; a link worker takes names in order, the store fills up, and what is left is listed. Each step is a sentence.
-use std::fmt;
+use std::alloc::AllocError;
 use std::fmt::Write;
 use store::{LONGEST_KEY, LONGEST_VALUE, ListEnds, Refusal, Side, WholeLists};
 
@@ -20,33 +20,38 @@ fn text(bytes: &[u8]) -> &str {
     }
 }
 
-fn tell_refusal(day: &mut String, refusal: Refusal) -> fmt::Result {
+fn tell_refusal(day: &mut String, refusal: Refusal) -> Result<(), AllocError> {
     let number = refusal.number();
     let why = reason(refusal);
     write!(day, "refused with {number}, {why}")
 }
 
-fn tell_done(day: &mut String, done: Result<(), Refusal>) -> fmt::Result {
+fn tell_done(day: &mut String, done: Result<(), Refusal>) -> Result<(), AllocError> {
     match done {
         Ok(()) => write!(day, "done"),
         Err(e) => tell_refusal(day, e),
     }
 }
 
-fn tell_counts<S: WholeLists>(day: &mut String, store: &S, list: &str) -> fmt::Result {
+fn tell_counts<S: WholeLists>(day: &mut String, store: &S, list: &str) -> Result<(), AllocError> {
     let len = store.len(list.as_bytes());
     let held = store.held();
     writeln!(day, "; {list} has {len} and the store holds {held}.")
 }
 
-fn push<S: WholeLists>(day: &mut String, store: &mut S, list: &str, value: &str) -> fmt::Result {
+fn push<S: WholeLists>(
+    day: &mut String,
+    store: &mut S,
+    list: &str,
+    value: &str,
+) -> Result<(), AllocError> {
     let done = store.push(Side::Right, list.as_bytes(), value.as_bytes());
     write!(day, "A compiler pushes {value} on {list}: ")?;
     tell_done(day, done)?;
     tell_counts(day, store, list)
 }
 
-fn take<S: WholeLists>(day: &mut String, store: &mut S, list: &str) -> fmt::Result {
+fn take<S: WholeLists>(day: &mut String, store: &mut S, list: &str) -> Result<(), AllocError> {
     let mut out = [0; LONGEST_VALUE];
     match store.pop(Side::Left, list.as_bytes(), &mut out) {
         Some(n) => {
@@ -66,7 +71,7 @@ fn put_first<S: WholeLists>(
     store: &mut S,
     list: &str,
     value: &str,
-) -> fmt::Result {
+) -> Result<(), AllocError> {
     let done = store.insert(list.as_bytes(), 0, value.as_bytes());
     write!(
         day,
@@ -76,7 +81,7 @@ fn put_first<S: WholeLists>(
     tell_counts(day, store, list)
 }
 
-fn tell_list<S: WholeLists>(day: &mut String, store: &S, key: &[u8]) -> fmt::Result {
+fn tell_list<S: WholeLists>(day: &mut String, store: &S, key: &[u8]) -> Result<(), AllocError> {
     let list = text(key);
     write!(day, "Left on {list}:")?;
     let mut out = [0; LONGEST_VALUE];
@@ -89,7 +94,7 @@ fn tell_list<S: WholeLists>(day: &mut String, store: &S, key: &[u8]) -> fmt::Res
     writeln!(day, ".")
 }
 
-fn tell<S: WholeLists>(day: &mut String, store: &S) -> fmt::Result {
+fn tell<S: WholeLists>(day: &mut String, store: &S) -> Result<(), AllocError> {
     let mut key = [0; LONGEST_KEY];
     for rank in 0..store.held() {
         if let Some(n) = store.key_at(rank, &mut key) {
@@ -100,21 +105,21 @@ fn tell<S: WholeLists>(day: &mut String, store: &S) -> fmt::Result {
     writeln!(day, "The store holds {held} in all.")
 }
 
-fn morning<S: WholeLists>(day: &mut String, store: &mut S) -> fmt::Result {
+fn morning<S: WholeLists>(day: &mut String, store: &mut S) -> Result<(), AllocError> {
     push(day, store, "motor", "limits.o")?;
     push(day, store, "display", "font.o")?;
     push(day, store, "failed", "brake.o")?;
     push(day, store, "failed", "-11")
 }
 
-fn noon<S: WholeLists>(day: &mut String, store: &mut S) -> fmt::Result {
+fn noon<S: WholeLists>(day: &mut String, store: &mut S) -> Result<(), AllocError> {
     push(day, store, "motor", "ramp.o")?;
     push(day, store, "display", "menu.o")?;
     push(day, store, "motor", "gears.o")?;
     take(day, store, "motor")
 }
 
-fn afternoon<S: WholeLists>(day: &mut String, store: &mut S) -> fmt::Result {
+fn afternoon<S: WholeLists>(day: &mut String, store: &mut S) -> Result<(), AllocError> {
     take(day, store, "motor")?;
     put_first(day, store, "motor", "limits.o")?;
     push(day, store, "failed", "127")?;
@@ -122,7 +127,7 @@ fn afternoon<S: WholeLists>(day: &mut String, store: &mut S) -> fmt::Result {
 }
 
 // The whole day, on an empty store.
-pub(crate) fn work<S: WholeLists>(day: &mut String, store: &mut S) -> fmt::Result {
+pub(crate) fn work<S: WholeLists>(day: &mut String, store: &mut S) -> Result<(), AllocError> {
     let room = store.capacity();
     writeln!(day, "A store for {room} elements is prepared.")?;
     morning(day, store)?;

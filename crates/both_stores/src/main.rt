@@ -1,5 +1,7 @@
 // A day at a build farm, worked through on a flat store and on a quicklist: what is said of the one is compared with what is said
 // of the other. Then the bytes of one node of the quicklist, each part with its meaning.
+#![tactic(auto)]
+
 use flat::Record;
 use quicklist::{ListRecord, Node};
 use std::{fmt, io};
@@ -33,7 +35,7 @@ fn refuse_nodes(rt: &HostRuntime) -> io::Result<()> {
 fn flat_day(day: &mut String) -> fmt::Result {
     let mut table = [Record::blank(); ROOM];
     match flat::prepare(&mut table) {
-        Ok(mut store) => day::work(day, &mut store),
+        Ok(mut store) => Ok(day::work(day, &mut store)?),
         Err(_) => Err(fmt::Error),
     }
 }
@@ -45,7 +47,7 @@ fn quicklist_day(
     lists: &mut [ListRecord; ROOM],
 ) -> fmt::Result {
     match quicklist::prepare(nodes, lists) {
-        Ok(mut store) => day::work(day, &mut store),
+        Ok(mut store) => Ok(day::work(day, &mut store)?),
         Err(_) => Err(fmt::Error),
     }
 }

@@ -5,43 +5,43 @@ use store::ListEnds;
 
 // A check that takes an empty store for three elements, on a flat one.
 macro_rules! on_three_records {
-    ($holds:path) => {{
+    ($rt:expr, $holds:path) => {{
         let mut table = [Record::blank(); 3];
         match prepare(&mut table) {
-            Ok(mut store) => $holds(&mut store),
+            Ok(mut store) => $holds($rt, &mut store),
             Err(_) => Err(Fail::new("three records refused")),
         }
     }};
 }
 
 #[test]
-fn ends() -> Result<(), Fail> {
-    on_three_records!(stores::ends)
+fn ends(rt: HostRuntime) -> Result<(), Fail> {
+    on_three_records!(&rt, stores::ends)
 }
 
 #[test]
-fn refusals() -> Result<(), Fail> {
-    on_three_records!(stores::refusals)
+fn refusals(rt: HostRuntime) -> Result<(), Fail> {
+    on_three_records!(&rt, stores::refusals)
 }
 
 #[test]
-fn full() -> Result<(), Fail> {
-    on_three_records!(stores::full)
+fn full(rt: HostRuntime) -> Result<(), Fail> {
+    on_three_records!(&rt, stores::full)
 }
 
 #[test]
-fn whole_lists() -> Result<(), Fail> {
-    on_three_records!(stores::whole_lists)
+fn whole_lists(rt: HostRuntime) -> Result<(), Fail> {
+    on_three_records!(&rt, stores::whole_lists)
 }
 
 #[test]
-fn keys() -> Result<(), Fail> {
-    on_three_records!(stores::keys)
+fn keys(rt: HostRuntime) -> Result<(), Fail> {
+    on_three_records!(&rt, stores::keys)
 }
 
 #[test]
-fn again() -> Result<(), Fail> {
-    on_three_records!(stores::again)
+fn again(rt: HostRuntime) -> Result<(), Fail> {
+    on_three_records!(&rt, stores::again)
 }
 
 #[test]

@@ -1,4 +1,6 @@
 // Worked examples of the orders, listpacks and stores, as tests. What a store must do is written once, for every store.
+#![tactic(auto)]
+
 #[cfg(test)]
 mod flat_tables;
 #[cfg(test)]

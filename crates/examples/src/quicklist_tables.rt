@@ -6,44 +6,44 @@ use store::ListEnds;
 
 // A check that takes an empty store for three elements, on a quicklist.
 macro_rules! on_three_nodes {
-    ($holds:path) => {{
+    ($rt:expr, $holds:path) => {{
         let mut nodes = [Node::blank(); 3];
         let mut lists = [ListRecord::blank(); 3];
         match prepare(&mut nodes, &mut lists) {
-            Ok(mut store) => $holds(&mut store),
+            Ok(mut store) => $holds($rt, &mut store),
             Err(_) => Err(Fail::new("three nodes and list records refused")),
         }
     }};
 }
 
 #[test]
-fn ends() -> Result<(), Fail> {
-    on_three_nodes!(stores::ends)
+fn ends(rt: HostRuntime) -> Result<(), Fail> {
+    on_three_nodes!(&rt, stores::ends)
 }
 
 #[test]
-fn refusals() -> Result<(), Fail> {
-    on_three_nodes!(stores::refusals)
+fn refusals(rt: HostRuntime) -> Result<(), Fail> {
+    on_three_nodes!(&rt, stores::refusals)
 }
 
 #[test]
-fn full() -> Result<(), Fail> {
-    on_three_nodes!(stores::full)
+fn full(rt: HostRuntime) -> Result<(), Fail> {
+    on_three_nodes!(&rt, stores::full)
 }
 
 #[test]
-fn whole_lists() -> Result<(), Fail> {
-    on_three_nodes!(stores::whole_lists)
+fn whole_lists(rt: HostRuntime) -> Result<(), Fail> {
+    on_three_nodes!(&rt, stores::whole_lists)
 }
 
 #[test]
-fn keys() -> Result<(), Fail> {
-    on_three_nodes!(stores::keys)
+fn keys(rt: HostRuntime) -> Result<(), Fail> {
+    on_three_nodes!(&rt, stores::keys)
 }
 
 #[test]
-fn again() -> Result<(), Fail> {
-    on_three_nodes!(stores::again)
+fn again(rt: HostRuntime) -> Result<(), Fail> {
+    on_three_nodes!(&rt, stores::again)
 }
 
 fn prepared(

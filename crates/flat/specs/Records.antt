@@ -1,7 +1,7 @@
 -- A record as a row, and a flat store as the rows of the records in use.
 use Rattle.std.specs.Prelude.{ℕ, List, [], ◌∷◌, map, length, take}
 use Rattle.std.proofs.Common.{arith, length-take}
-use Rattle.std.specs.List.{AllByRecursion as All}
+use Rattle.std.specs.List.{AllByRecursion}
 use Rattle.std.proofs.lemmas.List.{length-map}
 use Rattle.order.specs.Keys.{Key, key_in}
 use Rattle.store.specs.Lists.{Value, Lists, StoreLaws}
@@ -34,7 +34,7 @@ room_of s = length s.records.now
 
 -- ---- what holds of the lists of every flat store
 
-short : (rs : List Record) → All Short (rows rs)
+short : (rs : List Record) → AllByRecursion Short (rows rs)
 short [] = tt
 short (r ∷ rs) = ((simp length-take (omega arith), simp length-take (omega (arith, r.value_fits))), short rs)
 

@@ -1,4 +1,6 @@
 // The reply reader: the first reply of some bytes, as parts of them, with no allocation.
+#![tactic(auto)]
+
 ghost use Rattle.std.specs.Prelude.{◌≡◌, ℕ, ◌<◌, ◌⊎◌, List, MatchOption};
 ghost use Rattle.reply.specs.Replies.{deepest};
 ghost use Rattle.reply_reader.specs.Reading.{Answers, AnswersTo, NoReply, Gives, Next};

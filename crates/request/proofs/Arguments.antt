@@ -1,6 +1,6 @@
 -- One argument.
 use Rattle.std.proofs.Common.{◌≡◌, ℕ, ◌+◌, ◌-◌, ◌<◌, ◌≤◌, List, ◌∷◌, ◌++◌, length, take, drop, replicate, sym, refl, ap, ◌∙◌, subst, append_assoc, arith, length-append, length-drop, take-append-drop}
-use lib.ListN.{length-replicate}
+use Rattle.std.proofs.lemmas.List.{length-replicate}
 use Rattle.std.proofs.lemmas.List.{append_cancel_left, drop-drop, take_at, length-take-le}
 use Rattle.store.specs.Limits.{longest_value}
 use Rattle.request.specs.Texts.{Short}

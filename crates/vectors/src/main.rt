@@ -1,6 +1,8 @@
 // The entries of many values, a line for each, to compare with another implementation: the value in quotes, where a byte that
 // is not printable, a quote and a backslash stand as \x and two hexadecimal digits, and then the bytes of its entry in
 // hexadecimal. Each width of an integer is shown on both sides of its ends, and texts of every length that changes the form.
+#![tactic(auto)]
+
 use entry::{LONGEST_ENTRY, encode};
 use std::io;
 use store::LONGEST_VALUE;

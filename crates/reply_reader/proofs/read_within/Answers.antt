@@ -2,8 +2,8 @@ use Rattle.std.proofs.Common.{length, ap, arith, length-append}
 use Rattle.reply.specs.Replies.{bytes_of}
 use Rattle.reply_reader.proofs.read_within.Goals as goal
 
-pub overflow-sub-result : goal.overflow-sub-result
-overflow-sub-result c =
+pub overflow_sub-result : goal.overflow_sub-result
+overflow_sub-result c =
     let told = c.in-Ok.ensures in
     omega (arith, ap length told.3, length-append (bytes_of told.0) c.in-Ok.found.rest.now)
 

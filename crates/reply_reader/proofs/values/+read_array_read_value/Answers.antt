@@ -29,8 +29,8 @@ read_array-loop-left-preserved t c =
     let told = c.in_ok-found.ensures in
     one_more c.args.depth c.in-Some.n _ _ c.loop-left.left (c.loop-left.left - 1) c.loop-left.invariant more told.0 _ told.1 told.3
 
-pub read_array-overflow-sub-span : goal.read_array-overflow-sub-span
-read_array-overflow-sub-span t c = no_longer c.args.depth c.in-Some.n c.loop-left.left _ _ c.loop-left.invariant
+pub read_array-overflow_sub-span : goal.read_array-overflow_sub-span
+read_array-overflow_sub-span t c = no_longer c.args.depth c.in-Some.n c.loop-left.left _ _ c.loop-left.invariant
 
 pub read_array-returns : goal.read_array-returns
 read_array-returns t c =
