@@ -1,6 +1,6 @@
 -- The nodes after a change hold the list after it, none is empty, and a change in one node leaves the others.
 use Rattle.std.proofs.Common.{◌≡◌, ℕ, suc, ◌+◌, ◌-◌, ◌<◌, ◌≤◌, Bool, true, false, cond, ltb, List, [], ◌∷◌, ◌++◌, length, take, drop, set, sym, refl, ap, ◌∙◌, ⊎_elim, true≢false, arith}
-use lib.Seq.{take-append-add, drop-append-add}
+use Rattle.std.proofs.Math.Seq.{take-append-add, drop-append-add}
 use Rattle.std.specs.List.{insert, remove}
 use Rattle.std.proofs.lemmas.List.{append-nil, append_assoc, length-append, length-set, length-drop, length-take-le, take_all, take_at, drop_at, take-append-le, drop-append-le, set_split, set-append_left, set-append_right, nil_from_length}
 use Rattle.std.proofs.lemmas.List.Edits.{length-remove}

@@ -1,6 +1,6 @@
 -- The rules of nodes at the node where a value lies.
 use Rattle.std.proofs.Common.{◌≡◌, ℕ, zero, suc, ◌+◌, ◌-◌, ◌<◌, ◌≤◌, Bool, true, false, cond, List, [], ◌∷◌, ◌++◌, map, length, get_or, set, Some, sym, ap, ◌∙◌, subst, ⊎_elim, append-nil, arith, length-append, get_or-append-add}
-use lib.ListN.{get_or-append}
+use Rattle.std.proofs.Math.ListN.{get_or-append}
 use Rattle.std.specs.List.{remove}
 use Rattle.std.proofs.lemmas.List.{map-append}
 use Rattle.std.proofs.lemmas.Bool.{true≢false, cases_eq}

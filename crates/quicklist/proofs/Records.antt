@@ -1,7 +1,7 @@
 -- What a write to one list record leaves of the table, by places.
 use Rattle.std.proofs.Common.{◌≡◌, ℕ, ◌<◌, ◌≢◌, List, map, length, get_or, set, sym, ap, ◌∙◌, arith, get_or-set_other, get_or-set_same}
-use lib.ListN.{length-map}
-use lib.Seq.{map-set, map-set_same}
+use Rattle.std.proofs.Math.ListN.{length-map}
+use Rattle.std.proofs.Math.Seq.{map-set, map-set_same}
 use Rattle.std.proofs.lemmas.List.{get_or-map}
 use Rattle.records.specs.declared.record.ListRecord.{ListRecord}
 

@@ -1,7 +1,7 @@
 -- A node is put into a list, or taken out.
 use Rattle.std.proofs.Common.{◌≡◌, ℕ, ◌+◌, ◌-◌, ◌<◌, ◌≤◌, ◌≢◌, List, [], ◌∷◌, ◌++◌, map, length, get_or, set, sym, refl, ap, ◌∙◌, subst, ⊎_elim, append_assoc, arith, length-set}
-use mathlib.Core.Path.{transport}
-use lib.Seq.{map-set_same}
+use Rattle.std.proofs.Math.Path.{transport}
+use Rattle.std.proofs.Math.Seq.{map-set_same}
 use Rattle.std.proofs.lemmas.List.{map-append}
 use Rattle.std.proofs.lemmas.Bool.{cases_eq}
 use Rattle.order.specs.Keys.{key_in}

@@ -1,7 +1,7 @@
 -- What a write to one node leaves of the table, by the nodes' numbers.
 use Rattle.std.proofs.Common.{◌≡◌, ℕ, zero, suc, ◌-◌, ◌<◌, ◌≤◌, ◌≢◌, List, [], map, length, get_or, take, drop, set, Some, None, Option, sym, refl, ap, ◌∙◌, arith, get_or-set_other, get_or-set_same}
-use lib.ListN.{length-map}
-use lib.Seq.{map-set, map-set_same}
+use Rattle.std.proofs.Math.ListN.{length-map}
+use Rattle.std.proofs.Math.Seq.{map-set, map-set_same}
 use Rattle.std.proofs.lemmas.List.{get_or-map}
 use Rattle.store.specs.Lists.{Value}
 use Rattle.listpack.specs.declared.pack.Listpack.{Listpack}

@@ -1,5 +1,5 @@
 -- What the tables of a quicklist show.
-use Rattle.std.specs.Prelude.{◌≡◌, ℕ, zero, suc, ◌+◌, ◌-◌, ◌<◌, ◌≤◌, Bool, true, false, cond, ◌≢◌, List, [], ◌∷◌, ◌++◌, map, reverse, length, get_or, take, drop, set as changed_to, Some, None, Option, ◌==◌, slice_index, slice_index_or}
+use Rattle.std.specs.Prelude.{◌≡◌, ℕ, zero, suc, ◌+◌, ◌-◌, ◌<◌, ◌≤◌, Bool, true, false, cond, ◌≢◌, List, [], ◌∷◌, ◌++◌, map, reverse, length, take, drop, slice_set, Some, None, Option, ◌==◌, slice_index, slice_index_or}
 use Rattle.order.specs.Keys.{Key, key_in}
 use Rattle.store.specs.declared.Side.{Side}
 use Rattle.store.specs.declared.Side.TheVariants.{Left, Right}
@@ -149,7 +149,7 @@ pub record Threaded (lists : List ListRecord) (k : ℕ) : Type 0 where
   pub first : first_at lists k ≡ 0
   pub last : last_at lists k ≡ 0
   pub count : count_at lists k ≡ 0
-  pub next : get_or (map (λ (r : ListRecord). r.next) lists) k 0 ≡ k
+  pub next : slice_index (map (λ (r : ListRecord). r.next) lists) k ≡ k
 
 -- ---- one write
 
@@ -256,5 +256,5 @@ pub record Written (t t' : Tables) (e : ℕ) (k : Key) (c next : ℕ) : Type 0 w
 -- the record at e has the key k and the list with the nodes ns now, every other as it had, and all holds that must
 pub record Rebooked (t t' : Tables) (e : ℕ) (k : Key) (ns : Nodes) : Type 0 where
   pub whole : Whole t'
-  pub book : book_of t' ≡ changed_to (book_of t) e (k, ns)
+  pub book : book_of t' ≡ slice_set (book_of t) e (k, ns)
   pub nodes : room t' ≡ room t

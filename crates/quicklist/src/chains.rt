@@ -5,8 +5,8 @@ ghost use Rattle.records.specs.Records.{first_at};
 ghost use Rattle.listpack.specs.Packs.{values_in};
 ghost use Rattle.quicklist.specs.Tables.{room, links_of, next_in, numbers, values_at, Relisted};
 
-use crate::links::{Ends, tie};
 use crate::table::Tables;
+use crate::ties::{Ends, tie};
 use listpack::Listpack;
 use records::ListRecord;
 

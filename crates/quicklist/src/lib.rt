@@ -1,5 +1,7 @@
 // A list store over two tables that the host lends: nodes, each with a listpack of values, and list records. A list is a chain of nodes.
-ghost use Rattle.std.specs.Prelude.{◌≡◌, ◌<◌, ◌≤◌, false, [], length, set as with_at, Some, Ok, Err, Decides};
+#![tactic(auto)]
+
+ghost use Rattle.std.specs.Prelude.{◌≡◌, ◌<◌, ◌≤◌, false, [], length, slice_set, Some, Ok, Err, Decides};
 ghost use Rattle.std.specs.List.{insert, remove};
 ghost use Rattle.order.specs.Keys.{key_in, longest_key};
 ghost use Rattle.store.specs.Limits.{longest_value, unfit_number};
@@ -13,10 +15,10 @@ ghost use Rattle.quicklist.specs.Changes.{Fit, Recut, NodesPushed, NodesPopped, 
 
 mod chains;
 mod keyed;
-mod links;
 mod lists;
 mod packs;
 mod table;
+mod ties;
 mod whole;
 
 use order::KeyRow;
@@ -80,7 +82,8 @@ fn empty_over<'a>(nodes: &'a mut [Node], lists: &'a mut [ListRecord]) -> Quickli
 impl<'a> Quicklist<'a> {
     // How many elements there are.
     fn elements_held(&self) -> usize
-        ensures { (result ≡ elements (lists_in self.now)) × (result ≡ self.now.tables.held) }
+        ensures value { result ≡ elements (lists_in self.now) }
+        ensures counted { result ≡ self.now.tables.held }
     {
         self.tables.held
     }
@@ -132,7 +135,7 @@ impl<'a> Quicklist<'a> {
         requires within { index < length (at (lists_in self.old) key.now) }
         requires short { length value.now ≤ longest_value }
         ensures kept { room_of self.new ≡ room_of self.old }
-        ensures lists { lists_in self.new ≡ put (lists_in self.old) key.now (with_at (at (lists_in self.old) key.now) index value.now) }
+        ensures lists { lists_in self.new ≡ put (lists_in self.old) key.now (slice_set (at (lists_in self.old) key.now) index value.now) }
         ensures nodes { Recut (nodes_for self.old) (nodes_for self.new) key.now (changed takes swaps (nodes_for self.old key.now) index value.now) }
     {
         self.tables.set(key, index, value);

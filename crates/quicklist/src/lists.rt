@@ -1,5 +1,5 @@
 // One list by its nodes: values are added, written over and taken out.
-ghost use Rattle.std.specs.Prelude.{◌≡◌, ℕ, ◌<◌, ◌≤◌, List, [], ◌∷◌, ◌++◌, map, length, set as with_at, if◌then◌else◌, Decides};
+ghost use Rattle.std.specs.Prelude.{◌≡◌, ℕ, ◌<◌, ◌≤◌, List, [], ◌∷◌, ◌++◌, map, length, slice_set, if◌then◌else◌, Decides};
 ghost use Rattle.std.specs.List.{remove};
 ghost use Rattle.store.specs.Limits.{longest_value};
 ghost use Rattle.links.specs.Links.{tally, last_or, Sound};
@@ -127,7 +127,7 @@ impl<'a> Tables<'a> {
         ensures told { result ≡ swaps (values_at self.old.nodes.now n) j value.now }
         ensures nodes { (ls rs : List ℕ) → numbers self.old e ≡ ls ++ n ∷ rs
             → Relisted self.old self.new e (map (values_at self.old.nodes.now) ls
-            ++ (if result then with_at (values_at self.old.nodes.now n) j value.now else values_at self.old.nodes.now n) ∷ map (values_at self.old.nodes.now) rs) }
+            ++ (if result then slice_set (values_at self.old.nodes.now n) j value.now else values_at self.old.nodes.now n) ∷ map (values_at self.old.nodes.now) rs) }
     {
         replace_at(self.nodes, n, j, value)
     }

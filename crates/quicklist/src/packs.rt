@@ -1,5 +1,5 @@
 // The values of one node, changed in place.
-ghost use Rattle.std.specs.Prelude.{◌≡◌, ◌<◌, ◌≤◌, ◌&&◌, [], length, set as with_at, if◌then◌else◌, Some, nat_le, nat_lt};
+ghost use Rattle.std.specs.Prelude.{◌≡◌, ◌<◌, ◌≤◌, ◌&&◌, [], length, slice_set, if◌then◌else◌, Some, nat_le, nat_lt};
 ghost use Rattle.std.specs.List.{insert, remove};
 ghost use Rattle.store.specs.Limits.{longest_value};
 ghost use Rattle.store.specs.Answers.{Copied};
@@ -13,7 +13,9 @@ use store::LONGEST_VALUE;
 impl Node {
     // A node without values and links, to fill a table with.
     pub fn blank() -> Node
-        ensures { (values_in result.pack ≡ []) × (result.next ≡ 0) × (result.prev ≡ 0) }
+        ensures pack { values_in result.pack ≡ [] }
+        ensures next { result.next ≡ 0 }
+        ensures prev { result.prev ≡ 0 }
     {
         Node {
             next: 0,
@@ -54,7 +56,7 @@ pub(crate) fn replace_at(nodes: &mut [Node], n: u16, j: usize, value: &[u8]) -> 
     requires some { 0 < n }
     requires within { n ≤ length nodes.old }
     ensures told { result ≡ nat_le (length value.now) longest_value && (nat_lt j (length (values_at nodes.old n)) && swaps (values_at nodes.old n) j value.now) }
-    ensures packed { Refilled nodes.old nodes.new n (if result then with_at (values_at nodes.old n) j value.now else values_at nodes.old n) }
+    ensures packed { Refilled nodes.old nodes.new n (if result then slice_set (values_at nodes.old n) j value.now else values_at nodes.old n) }
 {
     nodes[n as usize - 1].pack.replace(j, value)
 }

@@ -116,7 +116,8 @@ impl<'a> Tables<'a> {
         requires more { self.old.held < room self.old }
         requires absent { (i : ℕ) → i < room self.old → 0 < length (nodes_of self.old i) → key_at self.old.lists.now i ≢ key_in name }
         requires short { length value.now ≤ longest_value }
-        ensures place { (self.old.free_list - 1 < room self.old) × (length (nodes_of self.old (self.old.free_list - 1)) ≡ 0) }
+        ensures place { self.old.free_list - 1 < room self.old }
+        ensures free { length (nodes_of self.old (self.old.free_list - 1)) ≡ 0 }
         ensures booked { Rebooked self.old self.new (self.old.free_list - 1) (key_in name) ((value.now ∷ []) ∷ []) }
     {
         let e = self.free_list as usize - 1;

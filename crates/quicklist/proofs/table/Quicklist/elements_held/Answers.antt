@@ -3,4 +3,4 @@ use Rattle.quicklist.proofs.Stores.{held_is}
 use Rattle.quicklist.proofs.table.Quicklist.elements_held.Goals as goal
 
 pub returns : goal.returns
-returns c = (held_is c.args.self.now, refl)
+returns c = record { value = held_is c.args.self.now; counted = refl }

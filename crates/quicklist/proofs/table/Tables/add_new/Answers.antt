@@ -22,6 +22,7 @@ pub returns : goal.returns
 returns c =
     let s = c.args.self.now in
     record {
-      place = (new_within s c.requires.whole c.requires.more, new_none s c.requires.whole c.requires.more);
+      place = new_within s c.requires.whole c.requires.more;
+      free = new_none s c.requires.whole c.requires.more;
       booked = created s c.requires.whole c.requires.more c.push_in.new.self c.write_record.new.self (key_in c.args.name) c.args.value.now c.requires.absent c.push_in.ensures.nodes c.push_in.ensures.linked c.write_record.ensures;
     }

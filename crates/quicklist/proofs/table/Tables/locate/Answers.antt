@@ -1,4 +1,4 @@
-use Rattle.std.proofs.Common.{◌≡◌, get_or, ◌∙◌, arith}
+use Rattle.std.proofs.Common.{get_or, ◌∙◌, arith}
 use Rattle.links.proofs.Tables.{within}
 use Rattle.records.specs.declared.record.ListRecord.{ListRecord}
 use Rattle.quicklist.specs.Tables.{nodes_of, room, links_of}

@@ -14,7 +14,7 @@ returns-in_default c =
     let p : Placed s k None = subst (λ q. Placed s q None) c.as_bytes.ensures.value c.in_default.ensures in
     let d = c.add_new.ensures in
     subst (Changed s c.add_new.new.self k) (sym (ap (λ ns. pushed takes c.args.side ns c.args.value.now) (nodes_none s c.requires.whole k p) ∙ pushed_none takes c.args.side c.args.value.now))
-    (changed_new s c.requires.whole k p c.add_new.new.self _ _ d.place.0 d.place.1 d.booked)
+    (changed_new s c.requires.whole k p c.add_new.new.self _ _ d.place d.free d.booked)
 
 pub returns : goal.returns
 returns c =

@@ -1,4 +1,4 @@
-use Rattle.std.proofs.Common.{sym, ap, arith}
+use Rattle.std.proofs.Common.{arith}
 use Rattle.records.specs.declared.record.ListRecord.{ListRecord}
 use Rattle.quicklist.specs.declared.table.Node.{Node}
 use Rattle.quicklist.proofs.Records.{field_read}

@@ -7,14 +7,18 @@ use crate::table::Node;
 impl Node {
     // Lets it lead to q.
     fn lead_to(&mut self, q: u16)
-        ensures { (self.new.next ≡ q) × (self.new.prev ≡ self.old.prev) × (self.new.pack ≡ self.old.pack) }
+        ensures next { self.new.next ≡ q }
+        ensures prev { self.new.prev ≡ self.old.prev }
+        ensures pack { self.new.pack ≡ self.old.pack }
     {
         self.next = q;
     }
 
     // Lets it lead back to p.
     fn lead_back_to(&mut self, p: u16)
-        ensures { (self.new.prev ≡ p) × (self.new.next ≡ self.old.next) × (self.new.pack ≡ self.old.pack) }
+        ensures prev { self.new.prev ≡ p }
+        ensures next { self.new.next ≡ self.old.next }
+        ensures pack { self.new.pack ≡ self.old.pack }
     {
         self.prev = p;
     }
