@@ -1,5 +1,5 @@
 // The steps of the reader.
-ghost use Rattle.std.specs.Prelude.{◌≡◌, ◌^◌, ◌<◌, ◌≤◌, [], ◌∷◌, length as type_size, take, decimal, MatchOption, MatchResult};
+ghost use Rattle.std.specs.Prelude.{◌≡◌, ◌^◌, ◌<◌, ◌≤◌, [], ◌∷◌, length, take, decimal, MatchOption, MatchResult};
 ghost use Rattle.store.specs.Limits.{longest_value};
 ghost use Rattle.request.specs.Grammar.{crlf, line, count_line, length_line, most_arguments};
 ghost use Rattle.request.specs.Steps.{left, Passed, Stuck, Between, Just, Sized, Number, Line, CountLine, LengthLine, Argument, Requests, NoDigit, Ends, Digit, Put, Read};
@@ -116,7 +116,7 @@ impl<'a> Reader<'a> {
 impl<'a> Reader<'a> {
     // Passes `size` bytes.
     fn skip(&mut self, size: usize) -> Result<(), Stop>
-        ensures { MatchResult result (λ _. (size ≤ type_size (left self.old)) × Passed self.old self.new (take size (left self.old))) (λ e. Stuck (Sized size) self.old e) }
+        ensures { MatchResult result (λ _. (size ≤ length (left self.old)) × Passed self.old self.new (take size (left self.old))) (λ e. Stuck (Sized size) self.old e) }
     {
         if self.bytes.len() - self.at < size {
             return Err(Stop::Short);
