@@ -5,7 +5,8 @@ usage: python3 tools/respell.py [--report]     at the top of the repository; --r
 
 An own name is one that a signature, a `let`, a record's field or an import's `as` of specs/ or proofs/ declares with a dash in it. A dash beside an operator, as in `bytes-++`,
 stays. In the files of one function's proof (proofs/F/..) the names that Rattle makes of the source keep the source's spelling: `is-after` becomes `is_after`.
-Strings, code, must-fail edits, inputs and outputs keep their words. The script is run once; it is kept so that the renaming can be done again and compared.
+Code spans of the README, CONTRIBUTING and docs/ are respelled too. Strings, code, must-fail edits, inputs and outputs keep their words. The script is run once,
+after the toolchain's own port.py; it is kept so that the renaming can be done again and compared.
 """
 
 import glob
@@ -116,8 +117,10 @@ def report(names):
 
 
 def main():
+    if sys.argv[1:] not in ([], ["--report"]):
+        raise SystemExit(__doc__)
     names = {n: respelled(n) for n in own_names()}
-    if "--report" in sys.argv[1:]:
+    if sys.argv[1:]:
         report(names)
         return
     for path in ghost_files():
