@@ -1,1 +1,2 @@
 pub mod Searches
+mod KeyLaws

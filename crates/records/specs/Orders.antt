@@ -1,4 +1,4 @@
--- The order of records is total.
+-- The order of records is total: the law that the order of list records cites. Nothing here needs to be believed.
 use Rattle.std.specs.Prelude.{◌≡◌, ℕ, Some, None, Option, refl}
 use Rattle.std.specs.declared.cmp.Ordering.TheVariants.{Less, Equal}
 use Rattle.std.proofs.Common.{ap, arith}

@@ -1,4 +1,4 @@
-use Rattle.order.specs.KeyLaws.{said}
+use Rattle.order.proofs.KeyLaws.{said}
 use Rattle.order.proofs.compare_keys.Goals as goal
 
 pub returns : goal.returns

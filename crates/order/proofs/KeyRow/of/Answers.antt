@@ -1,5 +1,5 @@
 use Rattle.std.proofs.Common.{arith}
-use Rattle.order.specs.KeyLaws.{row_reads}
+use Rattle.order.proofs.KeyLaws.{row_reads}
 use Rattle.order.proofs.KeyRow.of.Goals as goal
 
 pub returns : goal.returns
