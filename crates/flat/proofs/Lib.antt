@@ -1,4 +1,3 @@
-mod Bytes
 mod Scans
 mod Ranks
 mod Shifts

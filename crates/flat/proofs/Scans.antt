@@ -1,5 +1,5 @@
 -- What a loop over the records knows of the rows before and after it.
-use Rattle.std.proofs.Common.{◌≡◌, ℕ, zero, suc, ◌+◌, ◌-◌, ◌<◌, ◌≤◌, Bool, true, false, cond, List, ◌∷◌, length, get_or, drop, Decides, sym, ap, ◌∙◌, arith}
+use Rattle.std.proofs.Common.{◌≡◌, ℕ, zero, suc, ◌+◌, ◌-◌, ◌<◌, ◌≤◌, Bool, true, false, cond, List, ◌∷◌, length, get_or, drop, IsTrue, ◌↔◌, sym, ap, ◌∙◌, arith}
 use Rattle.std.specs.Ordering.{is_eq}
 use Rattle.std.proofs.lemmas.List.{drop_more, drop_all}
 use Rattle.std.proofs.lemmas.Bool.Decides.{same_from_decides}
@@ -8,13 +8,19 @@ use Rattle.store.specs.Rows.{values_of, spot, onward}
 use Rattle.store.proofs.ListLaws.{same_decides}
 use Rattle.flat.specs.declared.table.Record.{Record}
 use Rattle.flat.specs.Records.{key_of, value_of, rows}
+use Rattle.flat.proofs.Ranks.{blank}
 
-module _ (k : Key) (rs : List Record) (i : ℕ) (r : Record) (b : Bool) (l : i < length rs) (e : r ≡ get_or rs i r) (h : Decides b (k ≡ key_of r)) where
+module _ (k : Key) (rs : List Record) (i : ℕ) (b : Bool) (l : i < length rs) (h : IsTrue b ↔ (key_of (get_or rs i blank) ≡ k)) where
+  r : Record
+  r = get_or rs i blank
+
   next : drop i rs ≡ r ∷ drop (i + 1) rs
-  next = drop_more rs i r l ∙ ap (λ x. x ∷ drop (i + 1) rs) (sym e)
+  unfolding r
+  next = drop_more rs i blank l
 
   tested : is_eq (key_order k (key_of r)) ≡ b
-  tested = same_from_decides (is_eq (key_order k (key_of r))) b (same_decides k (key_of r)) h
+  unfolding r
+  tested = same_from_decides (is_eq (key_order k (key_of r))) b (same_decides k (key_of r)) ((λ t. sym (h.0 t)), λ e. h.1 (sym e))
 
   values_next : values_of k (rows (drop i rs)) ≡ cond b (value_of r ∷ values_of k (rows (drop (i + 1) rs))) (values_of k (rows (drop (i + 1) rs)))
   unfolding values_of

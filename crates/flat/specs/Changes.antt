@@ -4,7 +4,7 @@ use Rattle.std.specs.List.{insert, remove}
 use Rattle.order.specs.Keys.{Key}
 use Rattle.store.specs.declared.Side.{Side}
 use Rattle.store.specs.declared.Side.TheVariants.{Left, Right}
-use Rattle.store.specs.declared.Refusal.{Refusal}
+use Rattle.store.specs.declared.refusal.Refusal.{Refusal}
 use Rattle.store.specs.Limits.{largest_store}
 use Rattle.store.specs.Answers.{place}
 use Rattle.store.specs.Lists.{Value, at}
@@ -14,11 +14,6 @@ use Rattle.store.specs.Rows.{Row, lists_of, spot}
 abbrev pub joined_rows : Side → List Row → Row → List Row
 joined_rows Left ps p = p ∷ ps
 joined_rows Right ps p = ps ++ p ∷ []
-
--- where a row goes in: n rows are before it, or none
-abbrev pub end_of : Side → ℕ → ℕ
-end_of Left n = 0
-end_of Right n = n
 
 abbrev pub RowsPushed : {U : Type 0} → List Row → List Row → Side → Key → Value → Result U Refusal → Type 0
 RowsPushed ps ps' s k v (Ok _) = ps' ≡ joined_rows s ps (k, v)

@@ -4,6 +4,7 @@ use Rattle.std.proofs.Common.{arith, length-take}
 use Rattle.std.specs.List.{AllByRecursion}
 use Rattle.std.proofs.lemmas.List.{length-map}
 use Rattle.order.specs.Keys.{Key, key_in}
+use Rattle.store.specs.Answers.{value_in}
 use Rattle.store.specs.Lists.{Value, Lists, StoreLaws}
 use Rattle.store.specs.Rows.{Row, Short, lists_of}
 use Rattle.store.proofs.RowLaws.{rows_laws}
@@ -14,7 +15,7 @@ abbrev pub key_of : Record → Key
 key_of r = key_in r.name
 
 abbrev pub value_of : Record → Value
-value_of r = take r.value_len r.value
+value_of r = value_in r.value
 
 abbrev pub row : Record → Row
 row r = (key_of r, value_of r)
@@ -36,7 +37,7 @@ room_of s = length s.records.now
 
 short : (rs : List Record) → AllByRecursion Short (rows rs)
 short [] = tt
-short (r ∷ rs) = ((simp length-take (omega arith), simp length-take (omega (arith, r.value_fits))), short rs)
+short (r ∷ rs) = ((simp length-take (omega arith), simp length-take (omega arith)), short rs)
 
 pub flat_laws : (s : Flat) → StoreLaws (room_of s) (lists_in s)
 flat_laws s = rows_laws (room_of s) (rows_in s) s.some s.few (simp (length-map, length-take) (omega (arith, s.fits))) (short (take s.used s.records.now))

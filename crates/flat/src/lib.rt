@@ -1,77 +1,65 @@
 // A list store over one table of records that the host lends: a key's list is its records in the table's order.
 #![tactic(auto)]
 
-ghost use Rattle.std.specs.Prelude.{◌≡◌, ◌+◌, ◌<◌, ◌≤◌, false, [], length, set as changed, Some, Ok, Err, Decides};
+ghost use Rattle.std.specs.Prelude.{◌≡◌, ◌<◌, ◌≤◌, ◌↔◌, [], length, take, slice_set, slice_index_or, Ok, Err, IsSome, IfSome};
 ghost use Rattle.std.specs.List.{insert, remove};
-ghost use Rattle.order.specs.Keys.{key_in, longest_key};
-ghost use Rattle.store.specs.Limits.{longest_value, unfit_number};
-ghost use Rattle.store.specs.Lists.{at, put, keys_of};
+ghost use Rattle.store.specs.Lists.{at, put};
 ghost use Rattle.store.specs.Lists.{held as elements};
-ghost use Rattle.store.specs.Answers.{over, place, joined, Copied, Pushed, Popped, WasSet, Inserted, Removed};
-ghost use Rattle.store.specs.Rows.{spot, AtRank};
-ghost use Rattle.flat.specs.Records.{row, rows_in, lists_in, room_of, flat_laws};
+ghost use Rattle.store.specs.Answers.{joined, Pushed, Popped, WasSet, Inserted, Removed};
+ghost use Rattle.store.specs.Rows.{spot};
+ghost use Rattle.flat.specs.Records.{key_of, value_of, row, rows_in, lists_in, room_of, flat_laws};
 ghost use Rattle.flat.specs.Changes.{RowsPushed, RowsPopped, RowsSet, RowsInserted, RowsRemoved, Fit, joined_rows};
 
 mod records;
 mod table;
 
-use order::KeyRow;
-use records::{count, end, end_index, find, ranked};
+use records::{count, find, ranked};
 use store::{
-    LARGEST_STORE, LONGEST_KEY, LONGEST_VALUE, ListEnds, Refusal, Side, UNFIT, WholeLists,
+    LARGEST_STORE, LONGEST_KEY, LONGEST_VALUE, ListEnds, Refusal, Side, Unfit, WholeLists,
+    ask_insert, ask_remove, ask_rows, ask_set,
 };
 pub use table::{Flat, Record};
 
-// A table that no store can be made over, as it was.
-#[derive(Drop)]
-pub struct Refused<'a> {
-    pub records: &'a mut [Record],
-}
-
-impl<'a> Refused<'a> {
-    // The number of the refusal.
-    pub fn number(&self) -> u8
-        ensures { result ≡ unfit_number }
-    {
-        UNFIT
-    }
-}
-
 // The empty store over a table of 1 to `LARGEST_STORE` records, or the table back.
-pub fn prepare<'a>(records: &'a mut [Record]) -> Result<Flat<'a>, Refused<'a>>
+pub fn prepare<'a>(records: &'a mut [Record]) -> Result<Flat<'a>, Unfit<&'a mut [Record]>>
     ensures { elim result [
       | Ok s ↦ Fit (length records.old) × (room_of s ≡ length records.old) × (rows_in s ≡ [])
-      | Err e ↦ (Fit (length records.old) → ⊥) × (e.records.now ≡ records.old)
+      | Err e ↦ (Fit (length records.old) → ⊥) × (e.tables.now ≡ records.old)
     ] }
 {
-    let n = records.len();
-    if n < 1 || n > LARGEST_STORE {
-        return Err(Refused { records });
+    if (1..=LARGEST_STORE).contains(&records.len()) {
+        Ok(Flat { records, used: 0 })
+    } else {
+        Err(Unfit { tables: records })
     }
-    Ok(Flat { records, used: 0 })
 }
 
 // What is done to the table, by the records' places.
 impl<'a> Flat<'a> {
+    // The records in use.
+    fn in_use(&self) -> &[Record]
+        ensures { result.now ≡ take self.now.used self.now.records.now }
+    {
+        &self.records[..self.used]
+    }
+
     // Where the record of an element stands; past the records in use where there is none.
+    #[tactic(auto, using(crate::proofs::Tables::in_table, crate::proofs::Tables::within_table))]
     fn position(&self, key: &[u8], index: usize) -> usize
-        ensures { result ≡ spot key.now index (rows_in self.now) }
+        ensures place { result ≡ spot key.now index (rows_in self.now) }
+        ensures few { result ≤ self.now.used }
+        ensures there { index < length (at (lists_in self.now) key.now) → result < self.now.used }
     {
-        find(&self.records[0..self.used], key, index)
+        find(self.in_use(), key, index)
     }
 
-    // The same for a key in a row.
-    fn position_of(&self, name: &KeyRow, index: usize) -> usize
-        ensures { result ≡ spot (key_in name.now) index (rows_in self.now) }
+    // The record of an element of a key's list.
+    fn element(&self, key: &[u8], index: usize) -> Option<&Record>
+        ensures some { IfSome result (λ it. value_of it.now ≡ slice_index_or (at (lists_in self.now) key.now) index []) }
+        ensures there { IsSome result ↔ (index < length (at (lists_in self.now) key.now)) }
     {
-        self.position(name.as_bytes(), index)
-    }
-
-    // Where a record with the key at a rank stands.
-    fn ranked_at(&self, rank: usize) -> Option<usize>
-        ensures { AtRank (rows_in self.now) rank result }
-    {
-        ranked(&self.records[0..self.used], rank)
+        let place = self.position(key, index);
+        self.in_use().get(place)
     }
 
     // Puts a record in at a place, those from there on one place up.
@@ -81,12 +69,7 @@ impl<'a> Flat<'a> {
         ensures long { room_of self.new ≡ room_of self.old }
         ensures rows { rows_in self.new ≡ insert (rows_in self.old) slot (row it) }
     {
-        let mut i = self.used;
-        while i > slot {
-            let before = self.records[i - 1];
-            self.records[i] = before;
-            i -= 1;
-        }
+        self.records.copy_within(slot..self.used, slot + 1);
         self.records[slot] = it;
         self.used += 1;
     }
@@ -95,7 +78,7 @@ impl<'a> Flat<'a> {
     fn write(&mut self, slot: usize, it: Record)
         requires { slot < self.old.used }
         ensures long { room_of self.new ≡ room_of self.old }
-        ensures rows { rows_in self.new ≡ changed (rows_in self.old) slot (row it) }
+        ensures rows { rows_in self.new ≡ slice_set (rows_in self.old) slot (row it) }
     {
         self.records[slot] = it;
     }
@@ -106,112 +89,62 @@ impl<'a> Flat<'a> {
         ensures long { room_of self.new ≡ room_of self.old }
         ensures rows { rows_in self.new ≡ remove (rows_in self.old) slot }
     {
-        let last = self.used - 1;
-        let mut i = slot;
-        while i < last {
-            let next = self.records[i + 1];
-            self.records[i] = next;
-            i += 1;
-        }
-        self.used = last;
+        self.records.copy_within(slot + 1..self.used, slot);
+        self.used -= 1;
     }
 }
 
 // The same by what it does to the lists.
 impl<'a> Flat<'a> {
-    // Every record in use is an element.
-    fn elements_held(&self) -> usize
-        ensures { (result ≡ elements (lists_in self.now)) × (result ≡ self.now.used) }
-    {
-        self.used
-    }
-
-    // Whether no record is free.
-    fn is_full(&self) -> bool
-        ensures test { Decides result (elements (lists_in self.now) ≡ room_of self.now) }
-        ensures room { result ≡ false → self.now.used < room_of self.now }
-    {
-        let held = self.elements_held();
-        held == self.records.len()
-    }
-
-    // How many elements the list of a key has.
-    fn elements_of(&self, key: &[u8]) -> usize
-        ensures { result ≡ length (at (lists_in self.now) key.now) }
-    {
-        count(&self.records[0..self.used], key)
-    }
-
-    // Copies an element of a key's list out.
-    fn copy_element(&self, key: &[u8], index: usize, out: &mut [u8; LONGEST_VALUE]) -> usize
-        requires { index < length (at (lists_in self.now) key.now) }
-        ensures { Copied longest_value (at (lists_in self.now) key.now) index out.old out.new (Some result) }
-    {
-        let i = self.position(key, index);
-        let it = self.records[i];
-        it.copy_value(out)
-    }
-
-    // Copies the key at a rank out.
-    fn copy_ranked(&self, rank: usize, out: &mut [u8; LONGEST_KEY]) -> Option<usize>
-        ensures { Copied longest_key (keys_of (lists_in self.now)) rank out.old out.new result }
-    {
-        let Some(i) = self.ranked_at(rank) else {
-            return None;
-        };
-        let it = self.records[i];
-        Some(it.copy_key(out))
-    }
-
     // Adds an element at a side of a key's list.
-    fn add_end(&mut self, side: Side, name: KeyRow, value: &[u8])
-        requires room { self.old.used < room_of self.old }
-        requires short { length value.now ≤ longest_value }
+    #[tactic(auto, using(crate::proofs::Tables::pushed_lists, crate::proofs::Tables::pushed_right, crate::proofs::Tables::held_is))]
+    fn add_end(&mut self, side: Side, it: Record)
+        requires room { elements (lists_in self.old) < room_of self.old }
         ensures long { room_of self.new ≡ room_of self.old }
-        ensures rows { rows_in self.new ≡ joined_rows side (rows_in self.old) (key_in name, value.now) }
-        ensures lists { lists_in self.new ≡ put (lists_in self.old) (key_in name) (joined side (at (lists_in self.old) (key_in name)) value.now) }
+        ensures rows { rows_in self.new ≡ joined_rows side (rows_in self.old) (row it) }
+        ensures lists { lists_in self.new ≡ put (lists_in self.old) (key_of it) (joined side (at (lists_in self.old) (key_of it)) (value_of it)) }
     {
-        let slot = end(side, self.used);
-        let it = Record::new(name, value);
-        self.add_at(slot, it);
+        match side {
+            Side::Left => self.add_at(0, it),
+            Side::Right => self.add_at(self.used, it),
+        }
     }
 
-    // Writes a value over an element of a key's list.
-    fn write_element(&mut self, name: KeyRow, index: usize, value: &[u8])
-        requires within { index < length (at (lists_in self.old) (key_in name)) }
-        requires short { length value.now ≤ longest_value }
+    // Writes a record over that of an element of its key's list.
+    #[tactic(auto, using(crate::proofs::Tables::set_lists, crate::proofs::Tables::held_is))]
+    fn write_element(&mut self, index: usize, it: Record)
+        requires { index < length (at (lists_in self.old) (key_of it)) }
         ensures long { room_of self.new ≡ room_of self.old }
-        ensures rows { rows_in self.new ≡ changed (rows_in self.old) (spot (key_in name) index (rows_in self.old)) (key_in name, value.now) }
-        ensures lists { lists_in self.new ≡ put (lists_in self.old) (key_in name) (changed (at (lists_in self.old) (key_in name)) index value.now) }
+        ensures rows { rows_in self.new ≡ slice_set (rows_in self.old) (spot (key_of it) index (rows_in self.old)) (row it) }
+        ensures lists { lists_in self.new ≡ put (lists_in self.old) (key_of it) (slice_set (at (lists_in self.old) (key_of it)) index (value_of it)) }
     {
-        let i = self.position_of(&name, index);
-        let it = Record::new(name, value);
-        self.write(i, it);
+        let place = self.position(it.name.as_bytes(), index);
+        self.write(place, it);
     }
 
     // Adds an element before one of a key's list, or at its end.
-    fn add_element(&mut self, name: KeyRow, index: usize, value: &[u8])
-        requires room { self.old.used < room_of self.old }
-        requires within { index ≤ length (at (lists_in self.old) (key_in name)) }
-        requires short { length value.now ≤ longest_value }
+    #[tactic(auto, using(crate::proofs::Tables::inserted_lists, crate::proofs::Tables::held_is))]
+    fn add_element(&mut self, index: usize, it: Record)
+        requires room { elements (lists_in self.old) < room_of self.old }
+        requires within { index ≤ length (at (lists_in self.old) (key_of it)) }
         ensures long { room_of self.new ≡ room_of self.old }
-        ensures rows { rows_in self.new ≡ insert (rows_in self.old) (spot (key_in name) index (rows_in self.old)) (key_in name, value.now) }
-        ensures lists { lists_in self.new ≡ put (lists_in self.old) (key_in name) (insert (at (lists_in self.old) (key_in name)) index value.now) }
+        ensures rows { rows_in self.new ≡ insert (rows_in self.old) (spot (key_of it) index (rows_in self.old)) (row it) }
+        ensures lists { lists_in self.new ≡ put (lists_in self.old) (key_of it) (insert (at (lists_in self.old) (key_of it)) index (value_of it)) }
     {
-        let i = self.position_of(&name, index);
-        let it = Record::new(name, value);
-        self.add_at(i, it);
+        let place = self.position(it.name.as_bytes(), index);
+        self.add_at(place, it);
     }
 
     // Takes an element of a key's list out.
+    #[tactic(auto, using(crate::proofs::Tables::removed_lists, crate::proofs::Tables::held_is))]
     fn cut_element(&mut self, key: &[u8], index: usize)
         requires { index < length (at (lists_in self.old) key.now) }
         ensures long { room_of self.new ≡ room_of self.old }
         ensures rows { rows_in self.new ≡ remove (rows_in self.old) (spot key.now index (rows_in self.old)) }
         ensures lists { lists_in self.new ≡ put (lists_in self.old) key.now (remove (at (lists_in self.old) key.now) index) }
     {
-        let i = self.position(key, index);
-        self.cut(i);
+        let place = self.position(key, index);
+        self.cut(place);
     }
 }
 
@@ -226,36 +159,32 @@ impl<'a> ListEnds for Flat<'a> {
         self.records.len()
     }
 
+    // Every record in use is an element.
+    #[tactic(auto, using(crate::proofs::Tables::held_records))]
     fn held(&self) -> usize {
-        self.elements_held()
+        self.in_use().len()
     }
 
+    #[tactic(auto, using(crate::proofs::Tables::len_records))]
     fn len(&self, key: &[u8]) -> usize {
-        self.elements_of(key)
+        count(self.in_use(), key)
     }
 
     fn value_at(&self, key: &[u8], index: usize, out: &mut [u8; LONGEST_VALUE]) -> Option<usize> {
-        if index >= self.len(key) {
-            return None;
-        }
-        Some(self.copy_element(key, index, out))
+        Some(self.element(key, index)?.value.copy_to(out))
     }
 
+    #[tactic(auto, using(crate::proofs::Tables::room_more))]
     fn push(&mut self, side: Side, key: &[u8], value: &[u8]) -> Result<(), Refusal>
         ensures kept { room_of self.new ≡ room_of self.old }
         ensures pushed { Pushed (room_of self.old) (lists_in self.old) (lists_in self.new) side key.now value.now result }
         ensures rows { RowsPushed (rows_in self.old) (rows_in self.new) side key.now value.now result }
     {
-        let Some(name) = KeyRow::of(key) else {
-            return Err(Refusal::LongKey);
-        };
-        if value.len() > LONGEST_VALUE {
-            return Err(Refusal::LongValue);
-        }
-        if self.is_full() {
+        let (name, value) = ask_rows(key, value)?;
+        if self.held() == self.capacity() {
             return Err(Refusal::Full);
         }
-        self.add_end(side, name, value);
+        self.add_end(side, Record { name, value });
         Ok(())
     }
 
@@ -264,18 +193,16 @@ impl<'a> ListEnds for Flat<'a> {
         ensures popped { Popped (lists_in self.old) (lists_in self.new) side key.now out.old out.new result }
         ensures rows { RowsPopped (rows_in self.old) (rows_in self.new) side key.now result }
     {
-        let n = self.len(key);
-        if n == 0 {
-            return None;
-        }
-        let i = end_index(side, n);
-        let len = self.copy_element(key, i, out);
-        self.cut_element(key, i);
-        Some(len)
+        let end = side.index_in(self.len(key));
+        let size = self.value_at(key, end, out)?;
+        self.cut_element(key, end);
+        Some(size)
     }
 
     fn key_at(&self, rank: usize, out: &mut [u8; LONGEST_KEY]) -> Option<usize> {
-        self.copy_ranked(rank, out)
+        let records = self.in_use();
+        let place = ranked(records, rank)?;
+        Some(records[place].name.copy_to(out))
     }
 }
 
@@ -285,16 +212,8 @@ impl<'a> WholeLists for Flat<'a> {
         ensures was_set { WasSet (lists_in self.old) (lists_in self.new) key.now index value.now result }
         ensures rows { RowsSet (rows_in self.old) (rows_in self.new) key.now index value.now result }
     {
-        let Some(name) = KeyRow::of(key) else {
-            return Err(Refusal::LongKey);
-        };
-        if value.len() > LONGEST_VALUE {
-            return Err(Refusal::LongValue);
-        }
-        if index >= self.len(key) {
-            return Err(Refusal::OutOfRange);
-        }
-        self.write_element(name, index, value);
+        let (name, value) = ask_set(&*self, key, index, value)?;
+        self.write_element(index, Record { name, value });
         Ok(())
     }
 
@@ -303,19 +222,8 @@ impl<'a> WholeLists for Flat<'a> {
         ensures inserted { Inserted (room_of self.old) (lists_in self.old) (lists_in self.new) key.now index value.now result }
         ensures rows { RowsInserted (rows_in self.old) (rows_in self.new) key.now index value.now result }
     {
-        let Some(name) = KeyRow::of(key) else {
-            return Err(Refusal::LongKey);
-        };
-        if value.len() > LONGEST_VALUE {
-            return Err(Refusal::LongValue);
-        }
-        if self.is_full() {
-            return Err(Refusal::Full);
-        }
-        if index > self.len(key) {
-            return Err(Refusal::OutOfRange);
-        }
-        self.add_element(name, index, value);
+        let (name, value) = ask_insert(&*self, key, index, value)?;
+        self.add_element(index, Record { name, value });
         Ok(())
     }
 
@@ -324,12 +232,7 @@ impl<'a> WholeLists for Flat<'a> {
         ensures removed { Removed (lists_in self.old) (lists_in self.new) key.now index result }
         ensures rows { RowsRemoved (rows_in self.old) (rows_in self.new) key.now index result }
     {
-        if key.len() > LONGEST_KEY {
-            return Err(Refusal::LongKey);
-        }
-        if index >= self.len(key) {
-            return Err(Refusal::OutOfRange);
-        }
+        ask_remove(&*self, key, index)?;
         self.cut_element(key, index);
         Ok(())
     }

@@ -1,17 +1,14 @@
 // The table of a flat store: records that the host lends, those in use in front.
 ghost use Rattle.std.specs.Prelude.{◌≤◌, length};
-ghost use Rattle.store.specs.Limits.{longest_value, largest_store};
+ghost use Rattle.store.specs.Limits.{largest_store};
 
-use order::KeyRow;
-use store::LONGEST_VALUE;
+use store::{KeyRow, ValueRow};
 
-// A key and one value of its list. The ghost field also lets a store over such records stand in a `Result`.
+// A key and one value of its list.
 #[derive(Clone, Copy)]
 pub struct Record {
     pub(crate) name: KeyRow,
-    pub(crate) value: [u8; LONGEST_VALUE],
-    pub(crate) value_len: u8,
-    ghost value_fits: { value_len ≤ longest_value },
+    pub(crate) value: ValueRow,
 }
 
 #[derive(Drop)]

@@ -1,2 +1,3 @@
 pub mod Searches
+mod Ranks
 mod KeyLaws

@@ -1,5 +1,5 @@
 -- Total orders, and the least of a sequence of values.
-use Rattle.std.specs.Prelude.{◌≡◌, ℕ, ◌<◌, Some, None, Option, ◌≢◌}
+use Rattle.std.specs.Prelude.{◌≡◌, ℕ, zero, suc, ◌<◌, Some, None, Option, ◌≢◌}
 use Rattle.std.specs.declared.cmp.Ordering.TheVariants.{Less, Equal}
 use Rattle.std.specs.declared.cmp.Ordering.{Ordering}
 use Rattle.std.specs.Ordering.{ordering_reverse}
@@ -30,7 +30,18 @@ abbrev pub After : {V : Type 0} → (V → V → Ordering) → Option V → V �
 After order None v = Unit {0}
 After order (Some b) v = order b v ≡ Less
 
--- the value at i comes before the best so far, where there is one
-abbrev pub Beats : {V : Type 0} → (V → V → Ordering) → Option ℕ → (ℕ → V) → ℕ → Type 0
-Beats order None at i = Unit {0}
-Beats order (Some b) at i = order (at i) (at b) ≡ Less
+-- a value comes before the best so far, where there is one
+abbrev pub Beats : {V : Type 0} → (V → V → Ordering) → Option V → V → Type 0
+Beats order None v = Unit {0}
+Beats order (Some b) v = order v b ≡ Less
+
+-- from an index to that of the next greater value, if there is one: the first least of the values that come after
+abbrev pub Next : {V : Type 0} → (V → V → Ordering) → ℕ → (ℕ → V) → Option ℕ → Option ℕ → Type 0
+Next order n at None r = r ≡ None
+Next order n at (Some i) r = FirstLeast order (After order (Some (at i))) n at r
+
+-- the index of the value with a rank, in ascending order, where equal values have one rank: that of rank 0 is the least,
+-- and that of each other the next greater after the one before
+unfoldable pub Ranked : {V : Type 0} → (V → V → Ordering) → ℕ → (ℕ → V) → ℕ → Option ℕ → Type 0
+Ranked order n at zero r = FirstLeast order (λ _. Unit {0}) n at r
+Ranked order n at (suc k) r = (before : Option ℕ) × Ranked order n at k before × Next order n at before r

@@ -1,12 +1,12 @@
 // Total orders, and the search for the least of a slice, for every type that has one.
 #![tactic(auto)]
 
-ghost use Rattle.std.specs.Prelude.{◌≡◌, ◌<◌, ◌≤◌, length, IfSome, Some, None, Decides, MatchOption, slice_index_or};
+ghost use Rattle.std.specs.Prelude.{◌≡◌, ◌<◌, ◌≤◌, ◌++◌, [], length, drop, IfSome, Some, None, IsTrue, ◌↔◌, MatchOption, slice_index_or};
 ghost use Rattle.std.specs.declared.cmp.Ordering.TheVariants.{Less};
 ghost use Rattle.std.specs.declared.cmp.Ordering.{Ordering as Rank};
 ghost use Rattle.std.specs.Option.{option_map};
-ghost use Rattle.order.specs.Orders.{Lawful, After, Beats, FirstLeast};
-ghost use Rattle.order.specs.Keys.{Key, key_order, key_in, longest_key};
+ghost use Rattle.order.specs.Orders.{Lawful, After, Beats, FirstLeast, Ranked};
+ghost use Rattle.order.specs.Keys.{Key, key_order, bytes_in, Holds};
 ghost use Rattle.order.specs.KeyLaws.{key_order_lawful};
 
 use std::cmp::Ordering;
@@ -32,54 +32,43 @@ pub trait TotalOrder {
 
 // Whether a comes before b.
 fn comes_before<T: TotalOrder>(a: &T, b: &T) -> bool
-    ensures { Decides result (T.order (T.reads a.now) (T.reads b.now) ≡ Less) }
+    ensures { IsTrue result ↔ (T.order (T.reads a.now) (T.reads b.now) ≡ Less) }
 {
-    match a.compare(b) {
-        Ordering::Less => true,
-        _ => false,
-    }
+    a.compare(b).is_lt()
 }
 
-// Whether the item at i comes after the one at `from`, where there is one.
-fn is_after<T: TotalOrder>(items: &[T], from: Option<usize>, i: usize) -> bool
-    requires within { i < length items.now }
-    requires known { IfSome from (λ b. b < length items.now) }
-    ensures { (d : T) → Decides result (After T.order (option_map (λ b. T.reads (slice_index_or items.now b d)) from) (T.reads (slice_index_or items.now i d))) }
+// Whether an item comes after another, where there is one.
+fn is_after<T: TotalOrder>(item: &T, from: Option<&T>) -> bool
+    ensures { IsTrue result ↔ After T.order (option_map (λ b. T.reads b.now) from.entry) (T.reads item.now) }
 {
     match from {
         None => true,
-        Some(b) => comes_before(&items[b], &items[i]),
+        Some(b) => comes_before(b, item),
     }
 }
 
-// Whether the item at i comes before the best so far, where there is one.
-fn beats<T: TotalOrder>(items: &[T], best: Option<usize>, i: usize) -> bool
-    requires within { i < length items.now }
-    requires known { IfSome best (λ b. b < length items.now) }
-    ensures { (d : T) → Decides result (Beats T.order best (λ j. T.reads (slice_index_or items.now j d)) i) }
+// Whether an item comes before the best so far, where there is one.
+fn beats<T: TotalOrder>(item: &T, best: Option<(usize, &T)>) -> bool
+    ensures { IsTrue result ↔ Beats T.order (option_map (λ b. T.reads b.1.now) best.entry) (T.reads item.now) }
 {
     match best {
         None => true,
-        Some(b) => comes_before(&items[i], &items[b]),
+        Some((_, b)) => comes_before(item, b),
     }
 }
 
-// The first least of the items that come after the one at `from`, or of all.
-fn search<T: TotalOrder>(items: &[T], from: Option<usize>) -> Option<usize>
-    requires { IfSome from (λ b. b < length items.now) }
-    ensures within { IfSome result (λ i. (i < length items.now) × IfSome from (λ b. b < length items.now)) }
-    ensures all { from ≡ None → MatchOption result (length items.now ≡ 0) (λ i. i < length items.now) }
-    ensures first { (d : T) → FirstLeast T.order (After T.order (option_map (λ b. T.reads (slice_index_or items.now b d)) from)) (length items.now) (λ j. T.reads (slice_index_or items.now j d)) result }
+// The first least of the items that come after another, or of all.
+fn search<'a, T: TotalOrder>(items: &'a [T], from: Option<&'a T>) -> Option<usize>
+    ensures within { IfSome result (λ i. i < length items.now) }
+    ensures first { (d : T) → FirstLeast T.order (After T.order (option_map (λ b. T.reads b.now) from.entry)) (length items.now) (λ j. T.reads (slice_index_or items.now j d)) result }
 {
     let mut best = None;
-    for i in 0..items.len() {
-        if is_after(items, from, i) {
-            if beats(items, best, i) {
-                best = Some(i);
-            }
+    for (i, item) in items.iter().enumerate() {
+        if is_after(item, from) && beats(item, best) {
+            best = Some((i, item));
         }
     }
-    best
+    Some(best?.0)
 }
 
 // The index of the least item, the first where several are equal; none of an empty slice.
@@ -95,10 +84,19 @@ pub fn least_after<T: TotalOrder>(items: &[T], from: usize) -> Option<usize>
     ensures within { IfSome result (λ i. (i < length items.now) × (from < length items.now)) }
     ensures first { (d : T) → from < length items.now → FirstLeast T.order (After T.order (Some (T.reads (slice_index_or items.now from d)))) (length items.now) (λ j. T.reads (slice_index_or items.now j d)) result }
 {
-    if from >= items.len() {
-        return None;
+    search(items, Some(items.get(from)?))
+}
+
+// The index of an item by its rank among the values in ascending order, where equal ones have one rank; none past the last.
+pub fn ranked<T: TotalOrder>(items: &[T], rank: usize) -> Option<usize>
+    ensures within { IfSome result (λ i. i < length items.now) }
+    ensures ranked { (d : T) → Ranked T.order (length items.now) (λ j. T.reads (slice_index_or items.now j d)) rank result }
+{
+    let mut found = least(items);
+    for _ in 0..rank {
+        found = least_after(items, found?);
     }
-    search(items, Some(from))
+    found
 }
 
 // Keys byte by byte, unsigned, a proper beginning first.
@@ -108,45 +106,76 @@ fn compare_keys(a: &[u8], b: &[u8]) -> Ordering
     a.cmp(&b)
 }
 
-// A key as a plain row of a table: how many of the bytes are its own, and the bytes. Every row is a key, since a length past the longest
-// reads as the longest.
+// At most N bytes in place, as a plain part of a table's row: how many are its own, and room for all. Every such row has bytes,
+// since a length past N reads as N. A length is one byte, so that there are 255 at the most.
 #[derive(Clone, Copy)]
-pub struct KeyRow {
+pub struct ShortBytes<const N: usize> {
     pub len: u8,
-    pub bytes: [u8; LONGEST_KEY],
+    pub bytes: [u8; N],
 }
 
-impl KeyRow {
-    // The row of a key, or none where the key is too long.
-    pub fn of(key: &[u8]) -> Option<KeyRow>
-        ensures { MatchOption result (longest_key < length key.now) (λ row. (length key.now ≤ longest_key) × (key_in row ≡ key.now)) }
-    {
-        let len = key.len();
-        if len > LONGEST_KEY {
-            return None;
+// More bytes than there is room for.
+#[derive(Clone, Copy, Debug, PartialEq, Eq)]
+pub struct TooLong;
+
+// A key as a plain row of a table.
+pub type KeyRow = ShortBytes<LONGEST_KEY>;
+
+impl<'a, const N: usize> TryFrom<&'a [u8]> for ShortBytes<N> {
+    type Error = TooLong;
+
+    ghost try_from_gives = { λ bytes r. Holds N bytes.now r };
+
+    fn try_from(bytes: &'a [u8]) -> Result<Self, TooLong> {
+        let size = bytes.len();
+        let Ok(len) = u8::try_from(size) else {
+            return Err(TooLong);
+        };
+        if size > N {
+            return Err(TooLong);
         }
-        let mut bytes = [0; LONGEST_KEY];
-        bytes[0..len].copy_from_slice(key);
-        Some(KeyRow {
-            len: len as u8,
-            bytes,
-        })
-    }
-
-    // The key of the row.
-    pub fn as_bytes(&self) -> &[u8]
-        ensures value { result.now ≡ key_in self.now }
-        ensures few { length result.now ≤ longest_key }
-    {
-        let n = (self.len as usize).min(LONGEST_KEY);
-        &self.bytes[0..n]
+        let mut row = [0; N];
+        row[..size].copy_from_slice(bytes);
+        Ok(ShortBytes { len, bytes: row })
     }
 }
 
-impl TotalOrder for KeyRow {
+impl<const N: usize> ShortBytes<N> {
+    // No bytes.
+    pub fn empty() -> Self
+        ensures { bytes_in result ≡ [] }
+    {
+        ShortBytes {
+            len: 0,
+            bytes: [0; N],
+        }
+    }
+
+    // Its own bytes.
+    pub fn as_bytes(&self) -> &[u8]
+        ensures value { result.now ≡ bytes_in self.now }
+        ensures few { length result.now ≤ N }
+    {
+        &self.bytes[..(self.len as usize).min(N)]
+    }
+
+    // Copies its own bytes to the beginning of `out`, and tells how many they are; the bytes behind them stay.
+    pub fn copy_to(&self, out: &mut [u8; N]) -> usize
+        ensures size { result ≡ length (bytes_in self.now) }
+        ensures few { result ≤ N }
+        ensures copied { out.new ≡ bytes_in self.now ++ drop (length (bytes_in self.now)) out.old }
+    {
+        let bytes = self.as_bytes();
+        out[..bytes.len()].copy_from_slice(bytes);
+        bytes.len()
+    }
+}
+
+// Rows in the order of their bytes as keys.
+impl<const N: usize> TotalOrder for ShortBytes<N> {
     ghost Reading = { Key };
 
-    ghost reads = { key_in };
+    ghost reads = { bytes_in };
 
     ghost order = { key_order };
 

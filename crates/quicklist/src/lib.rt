@@ -4,7 +4,7 @@
 ghost use Rattle.std.specs.Prelude.{◌≡◌, ◌<◌, ◌≤◌, false, [], length, slice_set, Some, Ok, Err, Decides};
 ghost use Rattle.std.specs.List.{insert, remove};
 ghost use Rattle.order.specs.Keys.{key_in, longest_key};
-ghost use Rattle.store.specs.Limits.{longest_value, unfit_number};
+ghost use Rattle.store.specs.Limits.{longest_value};
 ghost use Rattle.store.specs.Lists.{at, put, keys_of};
 ghost use Rattle.store.specs.Lists.{held as elements};
 ghost use Rattle.store.specs.Answers.{joined, place, Copied, Pushed, Popped, WasSet, Inserted, Removed};
@@ -24,40 +24,33 @@ mod whole;
 use order::KeyRow;
 pub use records::ListRecord;
 use store::{
-    LARGEST_STORE, LONGEST_KEY, LONGEST_VALUE, ListEnds, Refusal, Side, UNFIT, WholeLists,
+    LARGEST_STORE, LONGEST_KEY, LONGEST_VALUE, ListEnds, Refusal, Side, Unfit, WholeLists,
 };
 use table::Tables;
 pub use table::{Node, Quicklist};
 
-// Two tables that no store can be made over, as they were.
+// The two tables of a store, as they are lent.
 #[derive(Drop)]
-pub struct Refused<'a> {
+pub struct Lent<'a> {
     pub nodes: &'a mut [Node],
     pub lists: &'a mut [ListRecord],
-}
-
-impl<'a> Refused<'a> {
-    // The number of the refusal.
-    pub fn number(&self) -> u8
-        ensures { result ≡ unfit_number }
-    {
-        UNFIT
-    }
 }
 
 // The empty store over two tables of one length, 1 to `LARGEST_STORE`, or the tables back.
 pub fn prepare<'a>(
     nodes: &'a mut [Node],
     lists: &'a mut [ListRecord],
-) -> Result<Quicklist<'a>, Refused<'a>>
+) -> Result<Quicklist<'a>, Unfit<Lent<'a>>>
     ensures { elim result [
       | Ok s ↦ Fit (length nodes.old) (length lists.old) × (room_of s ≡ length nodes.old) × (lists_in s ≡ [])
-      | Err e ↦ (Fit (length nodes.old) (length lists.old) → ⊥) × (e.nodes.now ≡ nodes.old) × (e.lists.now ≡ lists.old)
+      | Err e ↦ (Fit (length nodes.old) (length lists.old) → ⊥) × (e.tables.nodes.now ≡ nodes.old) × (e.tables.lists.now ≡ lists.old)
     ] }
 {
     let n = nodes.len();
     if n != lists.len() || n < 1 || n > LARGEST_STORE {
-        return Err(Refused { nodes, lists });
+        return Err(Unfit {
+            tables: Lent { nodes, lists },
+        });
     }
     Ok(empty_over(nodes, lists))
 }
@@ -218,7 +211,7 @@ impl<'a> ListEnds for Quicklist<'a> {
         ensures pushed { Pushed (room_of self.old) (lists_in self.old) (lists_in self.new) side key.now value.now result }
         ensures nodes { NodesPushed (nodes_for self.old) (nodes_for self.new) side key.now value.now result }
     {
-        let Some(name) = KeyRow::of(key) else {
+        let Ok(name) = KeyRow::try_from(key) else {
             return Err(Refusal::LongKey);
         };
         if value.len() > LONGEST_VALUE {
@@ -275,7 +268,7 @@ impl<'a> WholeLists for Quicklist<'a> {
         ensures inserted { Inserted (room_of self.old) (lists_in self.old) (lists_in self.new) key.now index value.now result }
         ensures nodes { NodesInserted (nodes_for self.old) (nodes_for self.new) key.now index value.now result }
     {
-        let Some(name) = KeyRow::of(key) else {
+        let Ok(name) = KeyRow::try_from(key) else {
             return Err(Refusal::LongKey);
         };
         if value.len() > LONGEST_VALUE {

@@ -3,7 +3,8 @@ use Rattle.std.proofs.Common.{◌≡◌, ℕ, zero, suc, ◌+◌, ◌<◌, ◌�
 use Rattle.std.specs.Ordering.{is_eq}
 use Rattle.std.proofs.lemmas.Bool.{cases_eq, cases_order}
 use Rattle.order.specs.Keys.{Key, key_order}
-use Rattle.order.specs.Orders.{FirstLeast, After}
+use Rattle.order.specs.Orders.{FirstLeast, After, Next}
+use Rattle.order.specs.Orders.{Ranked as Rank}
 use Rattle.store.specs.Lists.{keys_of}
 use Rattle.store.specs.Rows.{Row, values_of}
 use Rattle.store.proofs.ListLaws.{order_same, same_decides, below_apart, order_back}
@@ -133,3 +134,36 @@ module _ (rs : List ListRecord) where
               (λ q. let j = target n in absurd (h.2 j.0 j.1 j.2 ((λ x. used_order (j.3 x) (r x)) ∙ up i m.0 (omega arith) m.1)))
               (cases_eq m.0 i),
         )
+
+-- what the search by rank tells: a record in use has the key at the rank, and a free one that there is no such key
+abbrev pub Told : List ListRecord → ℕ → Option ℕ → Type 0
+Told rs k None = length (keys rs) ≤ k
+Told rs k (Some e) = (first_at rs e ≡ 0 → length (keys rs) ≤ k) × ((first_at rs e ≡ 0 → ⊥) → Ranked rs k (Some e))
+
+told : (rs : List ListRecord) (P : Option Key → Type 0) (k : ℕ) → From rs P k → (r : Option ℕ) → Least rs P r → Told rs k r
+told rs P k f None h = rank_none rs P k f h
+told rs P k f (Some e) h = (rank_free rs P k f e h, rank_here rs P k f e h)
+
+-- no key comes after a free record
+past_free : (rs : List ListRecord) (k a : ℕ) (r : Option ℕ) → first_at rs a ≡ 0 → length (keys rs) ≤ k → Least rs (After used_order (Some (reading_of (get_or rs a blank)))) r → Told rs (suc k) r
+past_free rs k a None z l h = omega arith
+past_free rs k a (Some e) z l h = absurd (never (reading_of (get_or rs e blank)) (ap (λ v. used_order v (reading_of (get_or rs e blank))) (sym (reads_free rs a z)) ∙ h.1))
+  where
+    never : (v : Option Key) → used_order None v ≡ Less → ⊥
+    never None g = let n : ◌≡◌ {A = ℕ} 0 1 = cc in absurd (omega arith)
+    never (Some b) g = let n : ◌≡◌ {A = ℕ} 0 1 = cc in absurd (omega arith)
+
+told_next : (rs : List ListRecord) (k : ℕ) (p r : Option ℕ) → Told rs k p → Next used_order (length rs) (λ j. reading_of (get_or rs j blank)) p r → Told rs (suc k) r
+told_next rs k None r t e = subst (Told rs (suc k)) (sym e) (omega arith)
+told_next rs k (Some a) r t h = go (first_at rs a) refl
+  where
+    go : (n : ℕ) → first_at rs a ≡ n → Told rs (suc k) r
+    go zero z = past_free rs k a r z (t.0 z) h
+    go (suc n) z =
+        let m : k + 1 ≡ suc k = omega arith in
+        subst (λ (i : ℕ). Told rs i r) m (told rs (After used_order (Some (reading_of (get_or rs a blank)))) (k + 1) (from_next rs k a (t.1 (λ y. let w : ◌≡◌ {A = ℕ} 0 (suc n) = sym y ∙ z in omega arith))) r h)
+
+pub told_ranked : (rs : List ListRecord) (k : ℕ) (r : Option ℕ) → Rank used_order (length rs) (λ j. reading_of (get_or rs j blank)) k r → Told rs k r
+unfolding Rank
+told_ranked rs zero r h = told rs (λ _. Unit {0}) 0 (from_first rs) r h
+told_ranked rs (suc k) r h = told_next rs k h.0 r (told_ranked rs k h.0 h.1) h.2

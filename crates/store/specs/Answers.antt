@@ -1,13 +1,18 @@
 -- What each operation of a list store answers and leaves, for the lists before, `ls`, and after, `ls'`.
 use Rattle.std.specs.Prelude.{◌≡◌, ℕ, ◌-◌, ◌<◌, ◌≤◌, Bool, cond, List, [], ◌∷◌, ◌++◌, length, drop, Some, None, Ok, Err, Option, Result, ◌==◌, nat_le, nat_lt, slice_index_or, slice_set}
 use Rattle.std.specs.List.{insert, remove}
-use Rattle.order.specs.Keys.{Key, longest_key}
+use Rattle.order.specs.declared.ShortBytes.{ShortBytes}
+use Rattle.order.specs.Keys.{Key, longest_key, bytes_in}
 use Rattle.store.specs.declared.Side.{Side}
 use Rattle.store.specs.declared.Side.TheVariants.{Left, Right}
-use Rattle.store.specs.declared.Refusal.{Refusal}
-use Rattle.store.specs.declared.Refusal.TheVariants.{LongKey, LongValue, Full, OutOfRange}
+use Rattle.store.specs.declared.refusal.Refusal.{Refusal}
+use Rattle.store.specs.declared.refusal.Refusal.TheVariants.{LongKey, LongValue, Full, OutOfRange}
 use Rattle.store.specs.Limits.{longest_value, refusal_number}
 use Rattle.store.specs.Lists.{Value, Lists, at, put, held}
+
+-- the value in a row
+abbrev pub value_in : ShortBytes longest_value → Value
+value_in r = bytes_in r
 
 -- ---- what is asked before a change
 
@@ -22,6 +27,10 @@ asked fails e next = cond fails (refusal_number e) next
 
 abbrev pub too_long : ℕ → List ℕ → Bool
 too_long most bytes = nat_lt most (length bytes)
+
+-- asked of a key and a value alone
+abbrev pub rows_answer : Key → Value → ℕ
+rows_answer k v = asked (too_long longest_key k) LongKey (asked (too_long longest_value v) LongValue 0)
 
 abbrev pub push_answer : ℕ → Lists → Key → Value → ℕ
 push_answer room ls k v = asked (too_long longest_key k) LongKey (asked (too_long longest_value v) LongValue (asked (held ls == room) Full 0))

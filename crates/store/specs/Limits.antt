@@ -1,7 +1,7 @@
 -- The limits and numbers of a list store; `longest_key` stands with the keys, in the crate `order`.
 use Rattle.std.specs.Prelude.{ℕ}
-use Rattle.store.specs.declared.Refusal.{Refusal}
-use Rattle.store.specs.declared.Refusal.TheVariants.{LongKey, LongValue, Full, OutOfRange}
+use Rattle.store.specs.declared.refusal.Refusal.{Refusal}
+use Rattle.store.specs.declared.refusal.Refusal.TheVariants.{LongKey, LongValue, Full, OutOfRange}
 
 -- the most bytes that a value has
 abbrev pub longest_value : ℕ

@@ -1,15 +1,21 @@
 // What a list store means, and the two traits by which it is used: its ends, and over them whole lists.
 #![tactic(auto)]
 
-ghost use Rattle.std.specs.Prelude.{◌≡◌, ℕ, ◌+◌, length};
+ghost use Rattle.std.specs.Prelude.{◌≡◌, ℕ, length};
 ghost use Rattle.order.specs.Keys.{longest_key};
-ghost use Rattle.store.specs.Limits.{longest_value, refusal_number};
+ghost use Rattle.store.specs.Limits.{longest_value};
 ghost use Rattle.store.specs.Lists.{Lists, StoreLaws, ListLaws, at, keys_of};
 ghost use Rattle.store.specs.Lists.{held as elements};
 ghost use Rattle.store.specs.Rows.{RowLaws};
-ghost use Rattle.store.specs.Answers.{Copied, Pushed, Popped, WasSet, Inserted, Removed};
+ghost use Rattle.store.specs.Answers.{place, Copied, Pushed, Popped, WasSet, Inserted, Removed};
 
-pub use order::LONGEST_KEY;
+mod questions;
+mod refusal;
+
+use order::ShortBytes;
+pub use order::{KeyRow, LONGEST_KEY};
+pub use questions::{ask_insert, ask_remove, ask_rows, ask_set, is_full, room_left};
+pub use refusal::{Refusal, Unfit};
 
 // The most bytes that a value has.
 pub const LONGEST_VALUE: usize = 64;
@@ -17,34 +23,23 @@ pub const LONGEST_VALUE: usize = 64;
 // The most elements that a store can be made for.
 pub const LARGEST_STORE: usize = 4096;
 
-// The number of the refusal to prepare a store over tables that do not fit.
-pub const UNFIT: u8 = 7;
+// A value as a plain row of a table.
+pub type ValueRow = ShortBytes<LONGEST_VALUE>;
 
-#[derive(Clone, Copy)]
+#[derive(Clone, Copy, Debug, PartialEq, Eq)]
 pub enum Side {
     Left,
     Right,
 }
 
-// Why a store leaves an operation undone.
-#[derive(Clone, Copy)]
-pub enum Refusal {
-    LongKey,
-    LongValue,
-    Full,
-    OutOfRange,
-}
-
-impl Refusal {
-    // The number of the refusal.
-    pub fn number(self) -> u8
-        ensures { result ≡ refusal_number self }
+impl Side {
+    // The index of the value on this side of a list of n values; 0 of none.
+    pub fn index_in(self, n: usize) -> usize
+        ensures { result ≡ place self n }
     {
         match self {
-            Refusal::LongKey => 1,
-            Refusal::LongValue => 2,
-            Refusal::Full => 3,
-            Refusal::OutOfRange => 4,
+            Side::Left => 0,
+            Side::Right => n.saturating_sub(1),
         }
     }
 }
@@ -106,13 +101,6 @@ pub trait WholeLists: ListEnds {
     fn remove(&mut self, key: &[u8], index: usize) -> Result<(), Refusal>
         ensures kept { Self.ListEnds.room self.new ≡ Self.ListEnds.room self.old }
         ensures removed { Removed (Self.ListEnds.lists self.old) (Self.ListEnds.lists self.new) key.now index result };
-}
-
-// How many elements more fit.
-pub fn room_left<S: ListEnds>(store: &S) -> usize
-    ensures { result + elements (S.lists store.now) ≡ S.room store.now }
-{
-    store.capacity() - store.held()
 }
 
 // The laws of `Lists` and of rows stand in contracts here, so that none can be dropped.

@@ -1,44 +1,26 @@
-use Rattle.std.proofs.Common.{◌≡◌, ℕ, ◌+◌, ◌<◌, length, get_or, IfSome, Option, sym, ◌∙◌, subst, true≢false, arith}
+use Rattle.std.proofs.Common.{Some, true≢false, refl, sym, ap, ◌∙◌, arith}
 use Rattle.std.specs.Option.{option_map}
-use Rattle.order.specs.Orders.{After, FirstLeast}
-use Rattle.order.proofs.Searches.{least_better, least_same, within_more, within_both, least_within}
+use Rattle.order.specs.Orders.{After}
+use Rattle.order.proofs.Searches.{better, stays, at_end}
 use Rattle.order.proofs.search.Goals as goal
-use Rattle.order.proofs.search.Goals.{then-is_after+then-beats, then-is_after+else-beats, else-is_after}
-
-pub beats-requires : goal.beats-requires
-beats-requires g c = record {
-  within = c.loop-i-test.true;
-  known = within_more c.loop-i.best c.loop-i.i (length c.args.items.now) c.loop-i-test.true c.loop-i.invariant.0;
-}
+use Rattle.order.proofs.search.Goals.{then-is_after+then-beats, else-is_after, else-is_after-via-then-is_after+else-beats, else-is_after-via-else-is_after}
 
 pub loop-i-preserved : goal.loop-i-preserved
 loop-i-preserved g c =
     let order = g.T.TotalOrder.order in
-    let lawful = g.met.T.TotalOrder.lawful in
-    let at = λ (d : g.row.T.Denot) (j : ℕ). g.T.TotalOrder.reads (get_or c.args.items.now j d) in
-    let after = λ (d : g.row.T.Denot). After order (option_map (at d) c.args.from) in
-    let i = c.loop-i.i in
-    let best = c.loop-i.best in
-    let inv = c.loop-i.invariant in
-    let G = λ (o : Option ℕ). IfSome o (λ b. b < i + 1) × ((d : g.row.T.Denot) → FirstLeast order (after d) (i + 1) (at d) o) in
+    let reads = g.T.TotalOrder.reads in
+    let after = After order (option_map (λ b. reads b.now) c.args.from) in
     elim c.if-is_after.branch [
-      | then-is_after+then-beats w ↦ subst G (sym w.best-is)
-          (omega arith, λ d. least_better order lawful (after d) (at d) i best (inv.1 d) ((c.is_after.ensures d).0 w.if-is_after.true) ((w.beats.ensures d).0 w.if-beats.true))
-      | then-is_after+else-beats w ↦ subst G (sym w.best-is)
-          (within_more best i (i + 1) (omega arith) inv.0, λ d. least_same order lawful (after d) (at d) i best (inv.1 d) (λ p b. true≢false (sym ((w.beats.ensures d).1 b) ∙ w.if-beats.false)))
-      | else-is_after w ↦ subst G (sym w.best-is)
-          (within_more best i (i + 1) (omega arith) inv.0, λ d. least_same order lawful (after d) (at d) i best (inv.1 d) (λ p b. true≢false (sym ((c.is_after.ensures d).1 p) ∙ w.if-is_after.false)))
+      | then-is_after+then-beats w ↦ better order reads (λ b. b.now) c.args.items.now after g.met.T.TotalOrder.lawful c.loop-i.i c.loop-i.best c.if-is_after.best _ c.loop-i-test.true c.index-items-i.is c.loop-i.invariant (w.if-is_after.ensures.0 refl) (w.if-beats.ensures.0 refl) w.best-is
+      | else-is_after w ↦ stays order reads (λ b. b.now) c.args.items.now after g.met.T.TotalOrder.lawful c.loop-i.i c.loop-i.best c.if-is_after.best (record { ref_ptr = c.args.items.ref_ptr; now = c.index-items-i.result }) c.loop-i-test.true c.index-items-i.is c.loop-i.invariant
+          (λ p q. elim w.else-is_after.branch [
+            | else-is_after-via-then-is_after+else-beats w' ↦ true≢false (sym (w'.if-beats.ensures.1 q))
+            | else-is_after-via-else-is_after w' ↦ true≢false (sym (w'.if-is_after.ensures.1 p))
+          ]) w.best-is
     ]
 
-pub returns : goal.returns
-returns g c =
-    let order = g.T.TotalOrder.order in
-    let at = λ (d : g.row.T.Denot) (j : ℕ). g.T.TotalOrder.reads (get_or c.args.items.now j d) in
-    let n : c.loop-i.i ≡ length c.args.items.now = omega arith in
-    let f = λ (d : g.row.T.Denot). subst (λ (m : ℕ). FirstLeast order (After order (option_map (at d) c.args.from)) m (at d) c.loop-i.best) n (c.loop-i.invariant.1 d) in
-    let w = subst (λ (m : ℕ). IfSome c.loop-i.best (λ b. b < m)) n c.loop-i.invariant.0 in
-    record {
-      within = within_both c.loop-i.best (length c.args.items.now) _ c.requires w;
-      all = least_within order g.T.TotalOrder.reads c.args.items.now c.args.from c.loop-i.best f w;
-      first = f;
-    }
+pub returns-in_err-best-clause-first : goal.returns-in_err-best-clause-first
+returns-in_err-best-clause-first g c = at_end g.T.TotalOrder.order g.T.TotalOrder.reads (λ b. b.now) c.args.items.now _ c.loop-i.i _ c.loop-i.best c.from_residual.result (omega arith) (omega arith) (ap (option_map (λ p. p.0)) c.in_err-best.was ∙ sym c.from_residual.ensures) c.loop-i.invariant
+
+pub returns-clause-first : goal.returns-clause-first
+returns-clause-first g c = at_end g.T.TotalOrder.order g.T.TotalOrder.reads (λ b. b.now) c.args.items.now _ c.loop-i.i _ c.loop-i.best (Some c.in_ok-best.field-0.0) (omega arith) (omega arith) (ap (option_map (λ p. p.0)) c.in_ok-best.was) c.loop-i.invariant

@@ -8,8 +8,8 @@ loop-it-preserved c =
     let k = c.args.key.now in
     let rs = c.args.records.now in
     elim c.if-has_key.branch [
-      | then-has_key w ↦ let h = count_yes k rs c.loop-it.it-index c.it-item.result c.has_key.result c.loop-it-test.true c.it-item.is c.has_key.ensures w.if-has_key.true in (omega (arith, w.n-is), omega (arith, w.n-is))
-      | else-has_key w ↦ let h = count_no k rs c.loop-it.it-index c.it-item.result c.has_key.result c.loop-it-test.true c.it-item.is c.has_key.ensures w.if-has_key.false in (omega (arith, w.n-is), omega (arith, w.n-is))
+      | then-has_key w ↦ let h = count_yes k rs c.loop-it.it-index c.has_key.result c.loop-it-test.true c.has_key.ensures w.if-has_key.true in (omega (arith, w.n-is), omega (arith, w.n-is))
+      | else-has_key w ↦ let h = count_no k rs c.loop-it.it-index c.has_key.result c.loop-it-test.true c.has_key.ensures w.if-has_key.false in (omega (arith, w.n-is), omega (arith, w.n-is))
     ]
 
 pub returns : goal.returns
