@@ -4,26 +4,13 @@ use std::alloc::AllocError;
 use std::fmt::Write;
 use store::{LONGEST_KEY, LONGEST_VALUE, ListEnds, Refusal, Side, WholeLists};
 
-fn reason(refusal: Refusal) -> &'static str {
-    match refusal {
-        Refusal::LongKey => "the key is too long",
-        Refusal::LongValue => "the value is too long",
-        Refusal::Full => "the store is full",
-        Refusal::OutOfRange => "there is no such place",
-    }
-}
-
 fn text(bytes: &[u8]) -> &str {
-    match std::str::from_utf8(bytes) {
-        Ok(s) => s,
-        Err(_) => "(no text)",
-    }
+    std::str::from_utf8(bytes).unwrap_or("(no text)")
 }
 
 fn tell_refusal(day: &mut String, refusal: Refusal) -> Result<(), AllocError> {
-    let number = refusal.number();
-    let why = reason(refusal);
-    write!(day, "refused with {number}, {why}")
+    let number = u8::from(refusal);
+    write!(day, "refused with {number}, {refusal}")
 }
 
 fn tell_done(day: &mut String, done: Result<(), Refusal>) -> Result<(), AllocError> {

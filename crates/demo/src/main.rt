@@ -4,22 +4,10 @@
 
 use flat::{Record, prepare};
 use std::io;
-use store::{LONGEST_KEY, LONGEST_VALUE, ListEnds, Refusal, Side, WholeLists};
-
-fn reason(refusal: Refusal) -> &'static str {
-    match refusal {
-        Refusal::LongKey => "the key is too long",
-        Refusal::LongValue => "the name is too long",
-        Refusal::Full => "the store is full",
-        Refusal::OutOfRange => "there is no such place",
-    }
-}
+use store::{LONGEST_KEY, LONGEST_VALUE, ListEnds, Side, WholeLists};
 
 fn text(bytes: &[u8]) -> &str {
-    match std::str::from_utf8(bytes) {
-        Ok(s) => s,
-        Err(_) => "(no text)",
-    }
+    std::str::from_utf8(bytes).unwrap_or("(no text)")
 }
 
 fn push<S: WholeLists>(rt: &HostRuntime, store: &mut S, list: &str, name: &str) -> io::Result<()> {
@@ -30,11 +18,10 @@ fn push<S: WholeLists>(rt: &HostRuntime, store: &mut S, list: &str, name: &str) 
         Ok(()) => println!(rt;
             "A compiler pushes {name} on {list}: done, {list} has {len} and the store holds {held}."
         ),
-        Err(e) => {
-            let number = e.number();
-            let why = reason(e);
+        Err(refusal) => {
+            let number = u8::from(refusal);
             println!(rt;
-                "A compiler pushes {name} on {list}: refused with {number}, {why}; {list} still has {len} and the store holds {held}."
+                "A compiler pushes {name} on {list}: refused with {number}, {refusal}; {list} still has {len} and the store holds {held}."
             )
         }
     }
@@ -62,12 +49,9 @@ fn put_first<S: WholeLists>(
         Ok(()) => println!(rt;
             "A compiler has built {name} anew and puts it first on {list}: done."
         ),
-        Err(e) => {
-            let why = reason(e);
-            println!(rt;
-                "A compiler has built {name} anew and cannot put it first on {list}: {why}."
-            )
-        }
+        Err(refusal) => println!(rt;
+            "A compiler has built {name} anew and cannot put it first on {list}: {refusal}."
+        ),
     }
 }
 
