@@ -1,9 +1,10 @@
 -- Texts, integers and heads, with CR LF behind them; and bytes by their number.
-use Rattle.std.proofs.Common.{◌≡◌, ℕ, zero, suc, ◌+◌, ◌-◌, ◌^◌, ◌<◌, ◌≤◌, List, [], ◌∷◌, ◌++◌, length, get_or, take, drop, replicate, ℤ, pos, negsuc, decimal, sym, refl, ap, ◌∙◌, subst, inl, inr, ⊎_elim, append_assoc, append-nil, arith, length-append, take-append-drop, w64, SFits}
+use Rattle.std.proofs.Common.{◌≡◌, ℕ, zero, suc, ◌+◌, ◌-◌, ◌^◌, ◌<◌, Bool, true, false, cond, eqb, List, [], ◌∷◌, ◌++◌, length, take, drop, replicate, ℤ, pos, negsuc, decimal, sym, refl, ap, ◌∙◌, subst, inl, inr, ⊎_elim, append_assoc, append-nil, arith, length-append, take-append-drop, w64, SFits}
 use Rattle.std.proofs.lemmas.List.{length-replicate}
-use Rattle.std.specs.List.{AllByRecursion}
+use Rattle.std.specs.List.{AllByRecursion, prefix_len}
+use Rattle.std.proofs.lemmas.Bool.Decides.{nat_tests}
 use Rattle.std.specs.Fmt.{signed_decimal}
-use Rattle.std.proofs.lemmas.List.{append_cancel_left, drop_more, length-take-le, take_at}
+use Rattle.std.proofs.lemmas.List.{append_cancel_left, length-take-le, take_at}
 use Rattle.reply.specs.Replies.{crlf, longest_text, Byte, Letter, Text}
 use Rattle.reply_reader.specs.Texts.{Short}
 use Rattle.reply_reader.specs.Steps.{Between, Just, Number, NoMinus, Integers, Heads, Run, Texts, Sized, Filled}
@@ -11,10 +12,10 @@ use Rattle.reply_reader.proofs.Sets.{meet, Front, Back}
 use Rattle.reply_reader.proofs.Numbers.{leads_digit}
 
 -- what holds of each element
-pub every_take : (P : ℕ → Type 0) (s : List ℕ) (i : ℕ) → i ≤ length s → ((k : ℕ) → k < i → P (get_or s k 0)) → AllByRecursion P (take i s)
-every_take P s zero le h = tt
-every_take P [] (suc i) le h = absurd (omega arith)
-every_take P (c ∷ s) (suc i) le h = (h 0 (omega arith), every_take P s i (omega arith) (λ k lt. h (suc k) (omega arith)))
+pub every_take : (P : ℕ → Type 0) (s : List ℕ) (i : ℕ) → AllByRecursion P s → AllByRecursion P (take i s)
+every_take P s zero h = tt
+every_take P [] (suc i) h = tt
+every_take P (c ∷ s) (suc i) h = (h.0, every_take P s i h.1)
 
 every-++ : (P : ℕ → Type 0) (s t : List ℕ) → AllByRecursion P s → AllByRecursion P t → AllByRecursion P (s ++ t)
 every-++ P [] t h k = k
@@ -29,34 +30,27 @@ zeros zero = tt
 zeros (suc n) = (omega arith, zeros n)
 
 -- the longest text
-module _ (most : ℕ) (s : List ℕ) (i : ℕ) (le : i ≤ length s) (short : i ≤ most) (all : (k : ℕ) → k < i → Letter (get_or s k 0)) where
-  pub run_full : i ≡ most → Run most s i
-  run_full e = record { within = le; short = short; letters = every_take Letter s i le all; ends = λ c r is l. e }
+abbrev pub is_letter : ℕ → Bool
+is_letter b = cond (eqb b 13) false (cond (eqb b 10) false true)
 
-  pub run_stuck : i < length s → (Letter (get_or s i 0) → ⊥) → Run most s i
-  run_stuck lt stuck =
+module _ (m c : ℕ) (r : List ℕ) (byte : Byte c) (h : Run m r (prefix_len is_letter (take m r))) where
+  run_step : (test : Bool) → is_letter c ≡ test → Run (suc m) (c ∷ r) (cond test (1 + prefix_len is_letter (take m r)) 0)
+  run_step true is =
+      let letter : Letter c = (byte, grind (arith, nat_tests), grind (arith, nat_tests)) in
+      let next : suc (prefix_len is_letter (take m r)) ≡ 1 + prefix_len is_letter (take m r) = omega arith in
+      subst (Run (suc m) (c ∷ r)) next (record { within = omega (arith, h.within); short = omega (arith, h.short); letters = (letter, h.letters); ends = λ x t at l. ap suc (h.ends x t at l) })
+  run_step false is =
       record {
-        within = le;
-        short = short;
-        letters = every_take Letter s i le all;
-        ends = λ c r is l.
-            let e : get_or s i 0 ∷ drop (i + 1) s ≡ c ∷ r = sym (drop_more s i 0 lt) ∙ is in
-            let same : get_or s i 0 ≡ c = cc in
-            absurd (stuck (subst Letter (sym same) l));
+        within = omega arith;
+        short = omega arith;
+        letters = tt;
+        ends = λ x t at l. let same : c ≡ x = cc in let l' : Letter c = subst Letter (sym same) l in absurd (grind (arith, nat_tests));
       }
 
-pub run_all : (most : ℕ) (s : List ℕ) → length s ≤ most → ((k : ℕ) → k < length s → Letter (get_or s k 0)) → (i : ℕ) → i ≡ length s → Run most s i
-run_all most s short all i e =
-    subst (Run most s) (sym e) (record {
-      within = omega arith;
-      short = short;
-      letters = every_take Letter s (length s) (omega arith) all;
-      ends = λ c r is l. let none : length (drop (length s) s) ≡ 0 = drop_none s in absurd (omega (arith, ap length is));
-    })
-  where
-    drop_none : (s : List ℕ) → length (drop (length s) s) ≡ 0
-    drop_none [] = refl
-    drop_none (c ∷ s) = drop_none s
+pub run_of : (most : ℕ) (s : List ℕ) → AllByRecursion Byte s → Run most s (prefix_len is_letter (take most s))
+run_of zero s bytes = record { within = omega arith; short = omega arith; letters = tt; ends = λ c r at l. refl }
+run_of (suc m) [] bytes = record { within = omega arith; short = omega arith; letters = tt; ends = λ c r at l. absurd (omega (arith, ap length at)) }
+run_of (suc m) (c ∷ r) bytes = run_step m c r bytes.0 (run_of m r bytes.1) (is_letter c) refl
 
 -- two texts with CR LF that begin one text are one
 letters_meet : (t b : List ℕ) → AllByRecursion Letter t → (c : ℕ) (x y r : List ℕ) → t ≡ b ++ x → (b ++ crlf) ++ y ≡ t ++ (c ∷ r) → x ≡ []
@@ -177,8 +171,8 @@ back_plus s none =
         absurd (none r (at ∙ ap (λ k. k ∷ r) same))
 
 -- heads
-pub back_nil : (high : ℕ) (s : List ℕ) → high < 2 ^ 64 → Back (Heads high) (Just (49 ∷ crlf)) (45 ∷ []) s
-back_nil high s hh =
+pub back_nil : (low high : ℕ) (s : List ℕ) → high < 2 ^ 64 → Back (Heads low high) (Just (49 ∷ crlf)) (45 ∷ []) s
+back_nil low high s hh =
     record {
       joins = λ v e. inr (ap (λ l. 45 ∷ l) e);
       leads = λ c r at w t r' l e.
@@ -188,8 +182,8 @@ back_nil high s hh =
           l;
     }
 
-pub back_head : (high : ℕ) (s : List ℕ) → NoMinus s → Back (Heads high) (Number 0 high) [] s
-back_head high s none =
+pub back_head : (low high : ℕ) (s : List ℕ) → NoMinus s → Back (Heads low high) (Number low high) [] s
+back_head low high s none =
     record {
       joins = λ v l. inl l;
       leads = λ c r at w t r' l e.

@@ -1,14 +1,16 @@
 -- Values by their marks.
-use Rattle.std.proofs.Common.{◌≡◌, ℕ, zero, suc, ◌≤◌, ◌⊎◌, List, [], ◌∷◌, ◌++◌, length, replicate, ℤ, decimal, Result, sym, refl, ap, ◌∙◌, subst, inl, inr, ⊎_elim, append_assoc, append-nil, arith, MatchResult}
+use Rattle.std.proofs.Common.{◌≡◌, ℕ, zero, suc, ◌≤◌, ◌⊎◌, List, [], ◌∷◌, ◌++◌, length, replicate, ℤ, decimal, Result, sym, refl, ap, ◌∙◌, subst, inl, inr, ⊎_elim, append_assoc, append-nil, arith, MatchResult, IfOk, IfErr}
+use Rattle.std.specs.Borrow.{Bor}
 use Rattle.std.proofs.lemmas.List.{length-replicate}
 use Rattle.std.specs.Fmt.{signed_decimal}
-use Rattle.std.proofs.lemmas.Result.{MatchResult-weaker}
+use Rattle.std.proofs.lemmas.Result.{MatchResult-weaker, MatchResult-from_both, IfOk-weaker, IfErr-weaker}
 use Rattle.reply.specs.Replies.{Reply, Replies, text, error, integer, bulk, nil, nil_array, array, count, crlf, nil_text, longest_bulk, bytes_of, row_of, Lawful, Bulk}
-use Rattle.reply_reader.specs.Reading.{Says}
-use Rattle.reply_reader.specs.Steps.{Stopped, Finds, After, Came, Texts, Integers, Heads, Filled}
+use Rattle.reply_reader.specs.Reading.{Says, Means}
+use Rattle.reply_reader.specs.Steps.{Stopped, Finds, After, Came, Texts, TextSaid, Integers, Heads, Filled}
 use Rattle.reply_reader.specs.declared.Found.{Found}
-use Rattle.reply_reader.specs.declared.Stop.{Stop}
-use Rattle.reply_reader.specs.declared.Stop.TheVariants.{At}
+use Rattle.reply_reader.specs.declared.Value.{Value}
+use Rattle.reply_reader.specs.declared.stop.Stop.{Stop}
+use Rattle.reply_reader.specs.declared.stop.Stop.TheVariants.{At}
 use Rattle.reply_reader.specs.Texts.{Short, Strays}
 use Rattle.reply_reader.proofs.Sets.{Front, Back, back}
 use Rattle.reply_reader.proofs.Numbers.{number_free, leads_digit}
@@ -152,8 +154,21 @@ kind_integer d s =
           (w, (a.0, subst (λ u. Lawful u d) a.1 l.1, q.1 ∙ ap rest_of a.1), refl);
     }
 
+-- a text or an error, by the value that is made of it
+pub came_text : (made : Bor (List ℕ) → Value → Type 0) (d : ℕ) (s : List ℕ) (r : Result Found Stop) → ((t : Bor (List ℕ)) (x : Value) → made t x → x ≡ Value.Text t) → IfOk r (TextSaid made s) → IfErr r (Stopped Texts s) → Came 43 d s r
+came_text made d s r is read stopped =
+    MatchResult-from_both r (λ f. Finds d (43 ∷ s) f) (λ e. Stopped (After 43 d) s e)
+    (IfOk-weaker r (TextSaid made s) (λ f. Finds d (43 ∷ s) f) (λ f h. (text h.0.now, h.1, subst (λ x. Means x (text h.0.now)) (sym (is h.0 f.value h.2)) refl, ap (λ l. 43 ∷ l) h.3)) read)
+    (IfErr-weaker r (Stopped Texts s) (Stopped (After 43 d) s) (λ e h. back (After 43 d) Texts [] s s e refl (kind_text d s) h) stopped)
+
+pub came_error : (made : Bor (List ℕ) → Value → Type 0) (d : ℕ) (s : List ℕ) (r : Result Found Stop) → ((t : Bor (List ℕ)) (x : Value) → made t x → x ≡ Value.Error t) → IfOk r (TextSaid made s) → IfErr r (Stopped Texts s) → Came 45 d s r
+came_error made d s r is read stopped =
+    MatchResult-from_both r (λ f. Finds d (45 ∷ s) f) (λ e. Stopped (After 45 d) s e)
+    (IfOk-weaker r (TextSaid made s) (λ f. Finds d (45 ∷ s) f) (λ f h. (error h.0.now, h.1, subst (λ x. Means x (error h.0.now)) (sym (is h.0 f.value h.2)) refl, ap (λ l. 45 ∷ l) h.3)) read)
+    (IfErr-weaker r (Stopped Texts s) (Stopped (After 45 d) s) (λ e h. back (After 45 d) Texts [] s s e refl (kind_error d s) h) stopped)
+
 -- a bulk string, before and after its head
-pub front_bulk : (d : ℕ) (s : List ℕ) → Front (After 36 d) (Heads longest_bulk) s
+pub front_bulk : (d : ℕ) (s : List ℕ) → Front (After 36 d) (Heads 0 longest_bulk) s
 front_bulk d s =
     record {
       grows = λ v h.

@@ -11,7 +11,7 @@ use Rattle.std.proofs.lemmas.Bool.Decides.{nat_tests}
 use Rattle.reply.specs.Replies.{crlf}
 use Rattle.reply_reader.specs.Texts.{Short, Strays}
 use Rattle.reply_reader.specs.Steps.{Stopped, Between, Just, Number, NoDigit, Ends}
-use Rattle.reply_reader.specs.declared.Stop.TheVariants.{At}
+use Rattle.reply_reader.specs.declared.stop.Stop.TheVariants.{At}
 use Rattle.reply_reader.proofs.Sets.{meet, Back}
 
 after_ge : (n : ℕ) (xs : List ℕ) → n ≤ digits_value_after 10 n xs

@@ -1,17 +1,21 @@
 -- At most one answer is right, and what follows from that.
-use Rattle.std.proofs.Common.{◌≡◌, ℕ, ◌+◌, ◌-◌, ◌<◌, ◌≤◌, List, [], ◌∷◌, ◌++◌, length, take, drop, sym, refl, ap, ◌∙◌, subst, ⊎_elim, append_assoc, append-nil, arith, length-append, take-append-drop}
+use Rattle.std.proofs.Common.{◌≡◌, ℕ, ◌+◌, ◌-◌, ◌<◌, ◌≤◌, List, [], ◌∷◌, ◌++◌, length, take, drop, Ok, Err, Result, sym, refl, ap, ◌∙◌, subst, inr, ⊎_elim, append_assoc, append-nil, arith, length-append, take-append-drop}
+use Rattle.std.specs.Prelude.{◌⊎◌, MatchResult, IsErrAnd, IfErr, IfNone}
+use Rattle.std.specs.Result.{result_ok}
 use Rattle.std.proofs.lemmas.List.{take-take}
 use Rattle.std.proofs.lemmas.Bool.{cases_order}
 use Rattle.reply.specs.Replies.{Reply, array, bytes_of, Lawful, deepest}
 use Rattle.reply.proofs.Overs.{from, arrays}
 use Rattle.reply_reader.specs.Texts.{Begins, Short, Strays}
-use Rattle.reply_reader.specs.Reading.{Says, Means, Answers, NoReply}
+use Rattle.reply_reader.specs.Reading.{Says, Means, Answers, NoReply, Refused, SeenFrom}
 use Rattle.reply_reader.specs.Laws.{Settled, Back, ReadsBack}
-use Rattle.reply_reader.specs.Steps.{Stopped}
-use Rattle.reply_reader.specs.declared.Answer.{Answer}
-use Rattle.reply_reader.specs.declared.Answer.TheVariants.{Took, More, Fault}
-use Rattle.reply_reader.specs.declared.Stop.{Stop}
-use Rattle.reply_reader.specs.declared.Stop.TheVariants.{Short as Ended, At}
+use Rattle.reply_reader.specs.Steps.{Stopped, Finds}
+use Rattle.reply_reader.specs.declared.FirstReply.{FirstReply}
+use Rattle.reply_reader.specs.declared.Found.{Found}
+use Rattle.reply_reader.specs.declared.ReadError.{ReadError}
+use Rattle.reply_reader.specs.declared.ReadError.TheVariants.{More, Fault}
+use Rattle.reply_reader.specs.declared.stop.Stop.{Stop}
+use Rattle.reply_reader.specs.declared.stop.Stop.TheVariants.{Short as Ended, At}
 use Rattle.reply_reader.proofs.Free.{free}
 
 -- a beginning of a beginning
@@ -37,6 +41,24 @@ pub no_reply : (s : List ℕ) (e : Stop) → Stopped (Says deepest) s e → NoRe
 no_reply s Ended h v l b = whole_short s v l b h
 no_reply s (At k) h v l b = h.2.open_ended (bytes_of v) (v, l, refl) b
 
+-- a stop, told from the front of the bytes
+pub refused : (L : List ℕ → Type 0) (s : List ℕ) (stop : Stop) (e : ReadError) → Stopped L s stop → SeenFrom (length s) stop e → Refused L s e
+refused L s Ended e h seen = subst (Refused L s) (sym seen) h
+refused L s (At k) e h seen =
+    let place : length s - k ≡ h.0 = omega (arith, h.1) in
+    subst (Refused L s) (sym (seen ∙ ap Fault place)) h.2
+
+pub seen_from_front : (d : ℕ) (s : List ℕ) (r : Result Found Stop) (seen : Result Found ReadError) (Made : Stop → ReadError → Type 0) → MatchResult r (λ f. Finds d s f) (λ e. Stopped (Says d) s e) → MatchResult r (λ f. seen ≡ Ok f) (λ e. IsErrAnd seen (Made e)) →
+    ((stop : Stop) (e : ReadError) → Made stop e → SeenFrom (length s) stop e) → IfErr seen (Refused (Says d) s)
+seen_from_front d s (Ok f) seen Made h g is = subst (λ x. IfErr x (Refused (Says d) s)) (sym g) tt
+seen_from_front d s (Err stop) (Ok f) Made h g is = absurd g
+seen_from_front d s (Err stop) (Err e) Made h g is = refused (Says d) s stop e h (is stop e g)
+
+-- no reply is read where a step stops
+pub unread : (s : List ℕ) (left : ℕ) (r : Result Found Stop) → MatchResult r (λ f. Finds deepest s f) (λ e. Stopped (Says deepest) s e) → IfNone (result_ok r) ((left ≡ 0) ⊎ NoReply s)
+unread s left (Ok f) h = tt
+unread s left (Err e) h = inr (no_reply s e h)
+
 pub settled : (s : List ℕ) → Settled s
 settled s = record {
   took = λ v u lv lu x y. free deepest v u lv lu x.0 y.0 (sym x.1 ∙ y.1);
@@ -50,12 +72,12 @@ settled s = record {
 }
 
 -- the round trip
-back_at : (s : List ℕ) (v : Reply) (a : Answer) → Lawful v deepest → Begins (bytes_of v) s → Answers s a → Back v (length (bytes_of v)) a
-back_at s v (Took x n) l b h =
+back_at : (s : List ℕ) (v : Reply) (a : Result FirstReply ReadError) → Lawful v deepest → Begins (bytes_of v) s → Answers s a → Back v (length (bytes_of v)) a
+back_at s v (Ok f) l b h =
     let same : h.0 ≡ v = free deepest h.0 v h.1 l h.3.0 b.0 (sym h.3.1 ∙ b.1) in
-    (x, ap (Took x) (h.4 ∙ ap (λ u. length (bytes_of u)) same), subst (Means x) same h.2)
-back_at s v More l b h = absurd (whole_short s v l b h)
-back_at s v (Fault p) l b h = absurd (h.open_ended (bytes_of v) (v, l, refl) b)
+    (f.value, ap (λ n. Ok (record { value = f.value; size = n })) (h.4 ∙ ap (λ u. length (bytes_of u)) same), subst (Means f.value) same h.2)
+back_at s v (Err More) l b h = absurd (whole_short s v l b h)
+back_at s v (Err (Fault p)) l b h = absurd (h.open_ended (bytes_of v) (v, l, refl) b)
 
 pub reads_back : ReadsBack
 reads_back = record {

@@ -4,7 +4,7 @@ use Rattle.std.proofs.lemmas.List.{take_at}
 use Rattle.reply.specs.Replies.{Reply, Replies, array, nil, nil_array, none, then, count, crlf, nil_text, most_elements, bytes_of, row_of, Lawful, EachLawful}
 use Rattle.reply_reader.specs.Reading.{Says}
 use Rattle.reply_reader.specs.Steps.{Stopped, After, Heads, Rows}
-use Rattle.reply_reader.specs.declared.Stop.{Stop}
+use Rattle.reply_reader.specs.declared.stop.Stop.{Stop}
 use Rattle.reply_reader.proofs.Sets.{Front, Back, front, back}
 use Rattle.reply_reader.proofs.Numbers.{number_free}
 use Rattle.reply_reader.proofs.Lines.{minus_first}
@@ -93,7 +93,7 @@ module _ (d n : ℕ) (start here : List ℕ) (left k : ℕ) (h : Sofar d n start
       }
 
 -- an array, before and after its head
-pub front_array : (d : ℕ) (s : List ℕ) → Front (After 42 (suc d)) (Heads most_elements) s
+pub front_array : (d : ℕ) (s : List ℕ) → Front (After 42 (suc d)) (Heads 0 most_elements) s
 front_array d s =
     record {
       grows = λ v h.
@@ -136,11 +136,11 @@ back_array d n s h =
 pub no_longer : (d n left : ℕ) (start rest : List ℕ) → Sofar d n start rest left → length rest ≤ length start
 no_longer d n left start rest h = omega (arith, ap length h.passed, length-append (row_of h.values) rest)
 
-pub all_passed : (d n left : ℕ) (s start rest : List ℕ) → Sofar d n start rest left → left ≤ 0 → n ≤ most_elements → s ≡ (decimal n ++ crlf) ++ start → (v : Reply) × Lawful v (suc d) × ((vs : Replies) × (v ≡ array vs) × (n ≡ count vs) × (take (length start - length rest - 0) start ≡ row_of vs)) × (42 ∷ s ≡ bytes_of v ++ rest)
+pub all_passed : (d n left : ℕ) (s start rest : List ℕ) → Sofar d n start rest left → left ≤ 0 → n ≤ most_elements → s ≡ (decimal n ++ crlf) ++ start → (v : Reply) × Lawful v (suc d) × ((vs : Replies) × (v ≡ array vs) × (n ≡ count vs) × (take (length start - length rest) start ≡ row_of vs)) × (42 ∷ s ≡ bytes_of v ++ rest)
 all_passed d n left s start rest h end most head =
     let vs = h.values in
     let all : n ≡ count vs = omega (arith, h.counted) in
-    let span : length start - length rest - 0 ≡ length (row_of vs) = omega (arith, ap length h.passed, length-append (row_of vs) rest) in (
+    let span : length start - length rest ≡ length (row_of vs) = omega (arith, ap length h.passed, length-append (row_of vs) rest) in (
       array vs,
       (omega arith, h.lawful),
       (vs, refl, all, ap (λ k. take k start) span ∙ ap (take (length (row_of vs))) h.passed ∙ take_at (row_of vs) rest (length (row_of vs)) refl),

@@ -1,12 +1,19 @@
 -- How the end of a step is carried to the whole that the step is a part of.
 use Rattle.std.proofs.Common.{◌≡◌, ℕ, zero, suc, ◌+◌, ◌<◌, true, false, eqb, ◌⊎◌, List, [], ◌∷◌, ◌++◌, length, take, drop, sym, refl, ap, ◌∙◌, subst, inl, inr, ⊎_elim, append_assoc, append-nil, add_assoc, add-one, arith, length-append, take-append-drop}
+use Rattle.std.specs.Prelude.{None, Some, Option, MatchOption, IfErr}
+use Rattle.std.specs.Option.{ok_or}
 use Rattle.std.proofs.Math.Seq.{take-append-add}
 use Rattle.std.proofs.lemmas.List.{append_cancel_left}
 use Rattle.std.proofs.lemmas.Bool.{eqb-true}
 use Rattle.reply_reader.specs.Texts.{Begins, Short, Strays}
 use Rattle.reply_reader.specs.Steps.{Stopped, Just}
-use Rattle.reply_reader.specs.declared.Stop.{Stop}
-use Rattle.reply_reader.specs.declared.Stop.TheVariants.{Short as Ended, At}
+use Rattle.reply_reader.specs.declared.stop.Stop.{Stop}
+use Rattle.reply_reader.specs.declared.stop.Stop.TheVariants.{Short as Ended, At}
+
+-- a step that found nothing
+pub missed : {X E : Type 0} (o : Option X) (e : E) (P : Type 0) (Q : X → Type 0) (R : E → Type 0) → MatchOption o P Q → (P → R e) → IfErr (ok_or o e) R
+missed None e P Q R m f = f m
+missed (Some x) e P Q R m f = tt
 
 pub empty : (s : List ℕ) → length s ≡ 0 → s ≡ []
 empty [] h = refl

@@ -1,12 +1,12 @@
 -- What can be relied on of the answers: each is the only one, what is written is read back, and elements come in their order.
-use Rattle.std.specs.Prelude.{◌≡◌, ℕ, ◌+◌, ◌-◌, List, ◌++◌, length, drop, Some, None, Option}
+use Rattle.std.specs.Prelude.{◌≡◌, ℕ, ◌+◌, ◌-◌, List, ◌++◌, length, drop, Some, None, Option, Ok, Result}
 use Rattle.reply.specs.Replies.{Reply, Replies, text, error, integer, bulk, nil, nil_array, array, none, then, count, bytes_of, row_of, Lawful, EachLawful, deepest}
 use Rattle.reply.specs.Written.{Wrote, Headed, RowWrote}
 use Rattle.reply_reader.specs.Texts.{Begins, Short, Strays}
 use Rattle.reply_reader.specs.Reading.{Says, Means, Answers, Gives, Next}
 use Rattle.reply_reader.specs.declared.Value.{Value}
-use Rattle.reply_reader.specs.declared.Answer.{Answer}
-use Rattle.reply_reader.specs.declared.Answer.TheVariants.{Took}
+use Rattle.reply_reader.specs.declared.FirstReply.{FirstReply}
+use Rattle.reply_reader.specs.declared.ReadError.{ReadError}
 use Rattle.reply_reader.specs.declared.Elements.{Elements}
 
 -- of any bytes, at most one answer is right
@@ -18,17 +18,17 @@ pub record Settled (s : List ℕ) : Type 0 where
   pub fault : (p q : ℕ) → Strays (Says deepest) s p → Strays (Says deepest) s q → p ≡ q
 
 -- the answer is v, which has n bytes
-abbrev pub Back : Reply → ℕ → Answer → Type 0
-Back v n a = (x : Value) × (a ≡ Took x n) × Means x v
+abbrev pub Back : Reply → ℕ → Result FirstReply ReadError → Type 0
+Back v n a = (x : Value) × (a ≡ Ok (record { value = x; size = n })) × Means x v
 
 -- the round trip
 pub record ReadsBack : Type 0 where
   -- a lawful reply is read back, whatever follows it
-  pub whole : (v : Reply) (rest : List ℕ) (a : Answer) → Lawful v deepest → Answers (bytes_of v ++ rest) a → Back v (length (bytes_of v)) a
+  pub whole : (v : Reply) (rest : List ℕ) (a : Result FirstReply ReadError) → Lawful v deepest → Answers (bytes_of v ++ rest) a → Back v (length (bytes_of v)) a
   -- so is one that was written into an output, from the place where it was written
-  pub written : (v : Reply) (out after : List ℕ) (at n : ℕ) (a : Answer) → Wrote v out at (Some n) after → Answers (drop at after) a → Back v n a
+  pub written : (v : Reply) (out after : List ℕ) (at n : ℕ) (a : Result FirstReply ReadError) → Wrote v out at (Some n) after → Answers (drop at after) a → Back v n a
   -- and an array whose elements were written right behind what stands before them
-  pub in_parts : (vs : Replies) (out mid after : List ℕ) (at n end : ℕ) (a : Answer) → Lawful (array vs) deepest → Headed (count vs) out at (Some n) mid → RowWrote vs mid (at + n) end after →
+  pub in_parts : (vs : Replies) (out mid after : List ℕ) (at n end : ℕ) (a : Result FirstReply ReadError) → Lawful (array vs) deepest → Headed (count vs) out at (Some n) mid → RowWrote vs mid (at + n) end after →
       Answers (drop at after) a → Back (array vs) (end - at) a
 
 -- the elements of a value

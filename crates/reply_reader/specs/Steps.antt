@@ -3,12 +3,14 @@ use Rattle.std.specs.Prelude.{◌≡◌, ℕ, ◌+◌, ◌≤◌, ◌⊎◌, Lis
 use Rattle.std.specs.Int.{w64}
 use Rattle.std.specs.List.{AllByRecursion}
 use Rattle.std.specs.Fmt.{signed_decimal}
+use Rattle.std.specs.Borrow.{Bor}
 use Rattle.reply.specs.Replies.{Reply, Replies, count, bytes_of, row_of, Lawful, EachLawful, crlf, nil_text, Byte, Letter, Text}
 use Rattle.reply_reader.specs.Texts.{Short, Strays}
 use Rattle.reply_reader.specs.Reading.{Says, Means}
 use Rattle.reply_reader.specs.declared.Found.{Found}
-use Rattle.reply_reader.specs.declared.Stop.{Stop}
-use Rattle.reply_reader.specs.declared.Stop.TheVariants.{Short as Ended, At}
+use Rattle.reply_reader.specs.declared.stop.Stop.{Stop}
+use Rattle.reply_reader.specs.declared.stop.Stop.TheVariants.{Short as Ended, At}
+use Rattle.reply_reader.specs.declared.Value.{Value}
 
 -- why no text of L begins s; a stop tells how many bytes there are from the one that strays on
 abbrev pub Stopped : (List ℕ → Type 0) → List ℕ → Stop → Type 0
@@ -42,14 +44,14 @@ NoMinus s = (r : List ℕ) → s ≢ 45 ∷ r
 abbrev pub Integers : List ℕ → Type 0
 Integers w = (z : ℤ) × FitsSigned w64 z × (w ≡ signed_decimal z ++ crlf)
 
--- a number up to high, or -1, and CR LF
-abbrev pub Heads : ℕ → List ℕ → Type 0
-Heads high w = Number 0 high w ⊎ (w ≡ nil_text ++ crlf)
+-- a number, or -1, and CR LF
+abbrev pub Heads : ℕ → ℕ → List ℕ → Type 0
+Heads low high w = Number low high w ⊎ (w ≡ nil_text ++ crlf)
 
 -- what was passed of those, and the rest
-abbrev pub Head : ℕ → List ℕ → Option ℕ → List ℕ → Type 0
-Head high s (Some n) rest = (n ≤ high) × (s ≡ (decimal n ++ crlf) ++ rest)
-Head high s None rest = s ≡ (nil_text ++ crlf) ++ rest
+abbrev pub Head : ℕ → ℕ → List ℕ → Option ℕ → List ℕ → Type 0
+Head low high s (Some n) rest = Between low high n × (s ≡ (decimal n ++ crlf) ++ rest)
+Head low high s None rest = s ≡ (nil_text ++ crlf) ++ rest
 
 -- the first k bytes of s are the most that a text of up to `most` bytes can begin with
 pub record Run (most : ℕ) (s : List ℕ) (k : ℕ) : Type 0 where
@@ -61,6 +63,10 @@ pub record Run (most : ℕ) (s : List ℕ) (k : ℕ) : Type 0 where
 -- a text and CR LF
 abbrev pub Texts : List ℕ → Type 0
 Texts w = (t : List ℕ) × Text t × (w ≡ t ++ crlf)
+
+-- a text was read, of which a value was made
+abbrev pub TextSaid : (Bor (List ℕ) → Value → Type 0) → List ℕ → Found → Type 0
+TextSaid made s f = (t : Bor (List ℕ)) × Text t.now × made t f.value × (s ≡ (t.now ++ crlf) ++ f.rest.now)
 
 -- n bytes
 abbrev pub Sized : ℕ → List ℕ → Type 0

@@ -1,13 +1,15 @@
 // The reply reader: the first reply of some bytes, as parts of them, with no allocation.
 #![tactic(auto)]
 
-ghost use Rattle.std.specs.Prelude.{◌≡◌, ℕ, ◌<◌, ◌⊎◌, List, MatchOption};
+ghost use Rattle.std.specs.Prelude.{◌≡◌, ℕ, ◌<◌, ◌⊎◌, List, IfSome, IfNone};
+ghost use Rattle.std.specs.Iterator.{at_most};
 ghost use Rattle.reply.specs.Replies.{deepest};
 ghost use Rattle.reply_reader.specs.Reading.{Answers, AnswersTo, NoReply, Gives, Next};
 ghost use Rattle.reply_reader.specs.Laws.{Settled, ReadsBack, ElementLaws};
 ghost use Rattle.reply_reader.specs.Steps.{Finds};
 
 mod steps;
+mod stop;
 mod values;
 
 use values::read_value;
@@ -34,17 +36,16 @@ struct Found<'a> {
     rest: &'a [u8],
 }
 
-// Why a step did not pass what it reads: the bytes ended, or a byte cannot stand where it stands; then how many bytes there are from it on.
-#[derive(Drop)]
-enum Stop {
-    Short,
-    At(usize),
+// The first reply of some bytes, and how many of them it has.
+#[derive(Clone, Copy)]
+pub struct FirstReply<'a> {
+    pub value: Value<'a>,
+    pub size: usize,
 }
 
-// What the bytes begin with: a reply and how many bytes it has; a beginning of a reply that wants more bytes; or neither, and then how many bytes a reply could begin with.
-#[derive(Drop)]
-pub enum Answer<'a> {
-    Took(Value<'a>, usize),
+// Why there is none: the bytes are a beginning of a reply that wants more; or neither, and then how many bytes a reply could begin with.
+#[derive(Clone, Copy, Debug, PartialEq, Eq)]
+pub enum ReadError {
     More,
     Fault(usize),
 }
@@ -72,20 +73,18 @@ fn elements_are_in_order()
 {}
 
 // The first reply of `bytes`, where `depth` arrays may lie inside one another.
-fn read_within(bytes: &[u8], depth: usize) -> Answer<'_>
+fn read_within(bytes: &[u8], depth: usize) -> Result<FirstReply<'_>, ReadError>
     ensures { AnswersTo depth bytes.now result }
 {
-    match read_value(bytes, depth) {
-        Ok(found) => Answer::Took(found.value, bytes.len() - found.rest.len()),
-        Err(stop) => match stop {
-            Stop::Short => Answer::More,
-            Stop::At(k) => Answer::Fault(bytes.len() - k),
-        },
-    }
+    let found = read_value(bytes, depth).map_err(|stop| stop.seen_from(bytes))?;
+    Ok(FirstReply {
+        value: found.value,
+        size: bytes.len() - found.rest.len(),
+    })
 }
 
 // The first reply of `bytes`; what follows it is not looked at.
-pub fn read(bytes: &[u8]) -> Answer<'_>
+pub fn read(bytes: &[u8]) -> Result<FirstReply<'_>, ReadError>
     ensures { Answers bytes.now result }
 {
     read_within(bytes, DEEPEST)
@@ -93,15 +92,14 @@ pub fn read(bytes: &[u8]) -> Answer<'_>
 
 // The element that comes next, if there is one.
 fn element(rest: &[u8], left: usize) -> Option<Found<'_>>
-    ensures { MatchOption result ((left ≡ 0) ⊎ NoReply rest.now) (λ f. (0 < left) × Finds deepest rest.now f) }
+    ensures there { IfSome result (λ _. 0 < left) }
+    ensures found { IfSome result (Finds deepest rest.now) }
+    ensures none { IfNone result ((left ≡ 0) ⊎ NoReply rest.now) }
 {
     if left == 0 {
         return None;
     }
-    match read_value(rest, DEEPEST) {
-        Ok(found) => Some(found),
-        Err(_) => None,
-    }
+    read_value(rest, DEEPEST).ok()
 }
 
 impl<'a> Value<'a> {
@@ -119,18 +117,18 @@ impl<'a> Value<'a> {
     }
 }
 
-impl<'a> Elements<'a> {
+impl<'a> Iterator for Elements<'a> {
+    type Item = Value<'a>;
+
+    ghost next_gives = { Next };
+
+    ghost remaining = { λ e. at_most e.left };
+
     // The next element, if there is one.
-    pub fn next(&mut self) -> Option<Value<'a>>
-        ensures { Next self.old result self.new }
-    {
-        match element(self.rest, self.left) {
-            Some(found) => {
-                self.rest = found.rest;
-                self.left -= 1;
-                Some(found.value)
-            }
-            None => None,
-        }
+    fn next(&mut self) -> Option<Value<'a>> {
+        let found = element(self.rest, self.left)?;
+        self.rest = found.rest;
+        self.left -= 1;
+        Some(found.value)
     }
 }

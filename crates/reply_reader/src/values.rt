@@ -1,31 +1,37 @@
 // Values, each behind its mark.
-ghost use Rattle.std.specs.Prelude.{ℕ, suc, MatchResult};
-ghost use Rattle.reply.specs.Replies.{longest_bulk, most_elements};
+ghost use Rattle.std.specs.Prelude.{ℕ, suc, MatchResult, IfOk, IfErr};
 ghost use Rattle.reply_reader.specs.Reading.{Says};
-ghost use Rattle.reply_reader.specs.Steps.{Stopped, Heads, Head, Finds, Came};
+ghost use Rattle.reply_reader.specs.Steps.{Stopped, Finds, Came, Texts, TextSaid};
 
-use crate::steps::{filled, first, head, integer_line, text_line};
-use crate::{Found, Stop, Value};
+use crate::steps::{Bounds, filled, first, head, integer_line, text_line};
+use crate::stop::Stop;
+use crate::{Found, Value};
 use reply::{LONGEST_BULK, MOST_ELEMENTS};
 
-// Reads a text.
-fn read_text(bytes: &[u8]) -> Result<Found<'_>, Stop>
-    ensures { (d : ℕ) → Came 43 d bytes.now result }
-{
-    let (it, rest) = text_line(bytes)?;
-    Ok(Found {
-        value: Value::Text(it),
-        rest,
-    })
-}
+// How many bytes a bulk string may have.
+const BULK_SIZES: Bounds = Bounds {
+    low: 0,
+    high: LONGEST_BULK as u64,
+};
 
-// Reads an error.
-fn read_error(bytes: &[u8]) -> Result<Found<'_>, Stop>
-    ensures { (d : ℕ) → Came 45 d bytes.now result }
+// How many elements an array may have.
+const ELEMENT_COUNTS: Bounds = Bounds {
+    low: 0,
+    high: MOST_ELEMENTS as u64,
+};
+
+// Reads a text, of which a value is made.
+fn read_text<'a, F: Fn(&'a [u8]) -> Value<'a>>(
+    bytes: &'a [u8],
+    value_of: F,
+) -> Result<Found<'a>, Stop>
+    requires { F.IsAlwaysCallable value_of }
+    ensures read { IfOk result (λ f. TextSaid (F.post value_of) bytes.now f) }
+    ensures stopped { IfErr result (Stopped Texts bytes.now) }
 {
     let (it, rest) = text_line(bytes)?;
     Ok(Found {
-        value: Value::Error(it),
+        value: value_of(it),
         rest,
     })
 }
@@ -41,25 +47,11 @@ fn read_integer(bytes: &[u8]) -> Result<Found<'_>, Stop>
     })
 }
 
-// Passes the head of a bulk string.
-fn bulk_head(bytes: &[u8]) -> Result<(Option<u64>, &[u8]), Stop>
-    ensures { MatchResult result (λ p. Head longest_bulk bytes.now p.0 p.1.now) (λ e. Stopped (Heads longest_bulk) bytes.now e) }
-{
-    head(bytes, LONGEST_BULK as u64)
-}
-
-// Passes the head of an array.
-fn array_head(bytes: &[u8]) -> Result<(Option<u64>, &[u8]), Stop>
-    ensures { MatchResult result (λ p. Head most_elements bytes.now p.0 p.1.now) (λ e. Stopped (Heads most_elements) bytes.now e) }
-{
-    head(bytes, MOST_ELEMENTS as u64)
-}
-
 // Reads a bulk string or nil.
 fn read_bulk(bytes: &[u8]) -> Result<Found<'_>, Stop>
     ensures { (d : ℕ) → Came 36 d bytes.now result }
 {
-    let (size, after) = bulk_head(bytes)?;
+    let (size, after) = head(bytes, BULK_SIZES)?;
     let Some(n) = size else {
         return Ok(Found {
             value: Value::Nil,
@@ -78,7 +70,7 @@ fn read_bulk(bytes: &[u8]) -> Result<Found<'_>, Stop>
 fn read_array(bytes: &[u8], depth: usize) -> Result<Found<'_>, Stop>
     ensures { Came 42 (suc depth) bytes.now result }
 {
-    let (size, start) = array_head(bytes)?;
+    let (size, start) = head(bytes, ELEMENT_COUNTS)?;
     let Some(n) = size else {
         return Ok(Found {
             value: Value::NilArray,
@@ -86,15 +78,12 @@ fn read_array(bytes: &[u8], depth: usize) -> Result<Found<'_>, Stop>
         });
     };
     let mut rest = start;
-    let mut left = n as usize;
-    while left > 0 {
-        let found = read_value(rest, depth)?;
-        rest = found.rest;
-        left -= 1;
+    for _ in 0..n {
+        rest = read_value(rest, depth)?.rest;
     }
     let span = start.len() - rest.len();
     Ok(Found {
-        value: Value::Array(&start[0..span], n as usize),
+        value: Value::Array(&start[..span], n as usize),
         rest,
     })
 }
@@ -107,17 +96,12 @@ pub fn read_value(bytes: &[u8], depth: usize) -> Result<Found<'_>, Stop>
     let Some((mark, rest)) = first(bytes) else {
         return Err(Stop::Short);
     };
-    match mark as char {
-        '+' => read_text(rest),
-        '-' => read_error(rest),
-        ':' => read_integer(rest),
-        '$' => read_bulk(rest),
-        '*' => {
-            if depth == 0 {
-                return Err(Stop::At(bytes.len()));
-            }
-            read_array(rest, depth - 1)
-        }
+    match mark {
+        b'+' => read_text(rest, Value::Text),
+        b'-' => read_text(rest, Value::Error),
+        b':' => read_integer(rest),
+        b'$' => read_bulk(rest),
+        b'*' if depth > 0 => read_array(rest, depth - 1),
         _ => Err(Stop::At(bytes.len())),
     }
 }

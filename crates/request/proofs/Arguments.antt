@@ -7,9 +7,9 @@ use Rattle.request.specs.Texts.{Short}
 use Rattle.request.specs.Grammar.{crlf, length_line, argument_text}
 use Rattle.request.specs.Answers.{cut}
 use Rattle.request.specs.Steps.{left, Passed, Stuck, Just, Sized, LengthLine, Filled, Argument, Put}
-use Rattle.request.specs.declared.Part.{Part}
+use Rattle.request.specs.declared.taken.Part.{Part}
 use Rattle.request.specs.declared.reader.Reader.{Reader}
-use Rattle.request.specs.declared.reader.Stop.{Stop}
+use Rattle.request.specs.declared.stop.Stop.{Stop}
 use Rattle.request.proofs.Sets.{Front, Back, after, both}
 use Rattle.request.proofs.Numbers.{line_free}
 
@@ -27,17 +27,16 @@ sized_short n xs i h =
       split = refl;
     }
 
-pub skipped : (old new : Reader) (n : ℕ) → n ≤ length old.bytes.now - old.at → new.bytes.now ≡ old.bytes.now → new.at ≡ old.at + n → (n ≤ length (left old)) × Passed old new (take n (left old))
+pub is_left : (old : Reader) (n : ℕ) → n ≤ length old.bytes.now - old.at → n ≤ length (left old)
+is_left old n h = omega (arith, length-drop old.at old.bytes.now)
+
+pub skipped : (old new : Reader) (n : ℕ) → n ≤ length old.bytes.now - old.at → new.bytes.now ≡ old.bytes.now → new.at ≡ old.at + n → Passed old new (take n (left old))
 skipped old new n h same at =
-    let long : length (left old) ≡ length old.bytes.now - old.at = length-drop old.at old.bytes.now in
-    let fits : n ≤ length (left old) = omega arith in (
-      fits,
-      record {
-        same = same;
-        at = at ∙ ap (λ k. old.at + k) (sym (length-take-le n (left old) fits));
-        split = sym (take-append-drop n (left old)) ∙ ap (λ l. take n (left old) ++ l) (drop-drop n old.at old.bytes.now ∙ ap (λ l. drop (old.at + n) l) (sym same) ∙ ap (λ k. drop k new.bytes.now) (sym at));
-      },
-    )
+    record {
+      same = same;
+      at = at ∙ ap (λ k. old.at + k) (sym (length-take-le n (left old) (is_left old n h)));
+      split = sym (take-append-drop n (left old)) ∙ ap (λ l. take n (left old) ++ l) (drop-drop n old.at old.bytes.now ∙ ap (λ l. drop (old.at + n) l) (sym same) ∙ ap (λ k. drop k new.bytes.now) (sym at));
+    }
 
 same_front : (xs ys s t : List ℕ) → length xs ≡ length ys → xs ++ s ≡ ys ++ t → xs ≡ ys
 same_front xs ys s t l e = sym (take_at xs s (length ys) l) ∙ ap (take (length ys)) e ∙ take_at ys t (length ys) refl

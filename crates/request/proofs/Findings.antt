@@ -1,15 +1,15 @@
 -- From the steps of the reader to what is found.
-use Rattle.std.proofs.Common.{◌≡◌, ℕ, ◌+◌, ◌<◌, ◌≤◌, List, [], ◌∷◌, ◌++◌, map, length, take, drop, Ok, Err, Result, sym, refl, ap, ◌∙◌, subst, ⊎_elim, append_assoc, append-nil, zero-add, arith, length-append, take-append-drop, MatchResult}
+use Rattle.std.proofs.Common.{◌≡◌, ℕ, ◌+◌, ◌<◌, ◌≤◌, List, [], ◌∷◌, ◌++◌, map, length, take, drop, sym, refl, ap, ◌∙◌, subst, ⊎_elim, append_assoc, append-nil, zero-add, arith, length-append, take-append-drop}
 use Rattle.std.proofs.lemmas.List.{take-take, take_all}
 use Rattle.std.proofs.lemmas.Bool.{cases_lt}
 use Rattle.request.specs.Texts.{Begins, Short, Strays}
 use Rattle.request.specs.Grammar.{count_line, request_text, Bytes}
 use Rattle.request.specs.Answers.{cut, parts_from, parts_in, arguments, Takes, Lacks, Faults, Kept, Correct}
-use Rattle.request.specs.Steps.{left, Stopped, Stuck, Requests, Read, stopped}
+use Rattle.request.specs.Steps.{left, Stopped, Requests, Read, stopped}
 use Rattle.request.specs.declared.reader.Reader.{Reader}
-use Rattle.request.specs.declared.reader.Stop.{Stop}
-use Rattle.request.specs.declared.reader.Stop.TheVariants.{Short as Ended, At}
-use Rattle.request.specs.declared.Request.{Request}
+use Rattle.request.specs.declared.stop.Stop.{Stop}
+use Rattle.request.specs.declared.stop.Stop.TheVariants.{Short as Ended, At}
+use Rattle.request.specs.declared.taken.Request.{Request}
 use Rattle.request.proofs.Bytes.{bytes_take, opens, lawful_of}
 use Rattle.request.proofs.Free.{request_free}
 
@@ -57,12 +57,12 @@ module _ (s : List ℕ) (bytes : Bytes s) where
             (cases_lt p n);
       }
 
-  stops : (e : Stop) → Stopped Requests s 0 e → Correct s (stopped e)
+  pub stops : (e : Stop) → Stopped Requests s 0 e → Correct s (stopped e)
   stops Ended h = lacks h
   stops (At p) h = subst (Faults s) (sym (h.1 ∙ zero-add h.0)) (faults h.0 h.2)
 
 module _ (a c : Reader) (bytes : Bytes a.bytes.now) (start : a.at ≡ 0) where
-  takes : (q : Request) → Read a c q → Takes a.bytes.now (arguments q) (parts_in q) q.span
+  pub takes : (q : Request) → Read a c q → Takes a.bytes.now (arguments q) (parts_in q) q.span
   takes q h =
       let args = arguments q in
       let b : Begins (request_text args) a.bytes.now = (left c, ap (λ i. drop i a.bytes.now) (sym start) ∙ h.passed.split) in
@@ -74,9 +74,5 @@ module _ (a c : Reader) (bytes : Bytes a.bytes.now) (start : a.at ≡ 0) where
         spans = h.span ∙ h.passed.at ∙ ap (λ i. i + length (request_text args)) start ∙ zero-add _;
       }
 
-  keeps : (q : Request) → Read a c q → Kept a.bytes.now q
+  pub keeps : (q : Request) → Read a c q → Kept a.bytes.now q
   keeps q h = record { bytes = h.same; count = h.count; within = omega (arith, h.span, c.within, ap length h.passed.same) }
-
-  pub found : (r : Result Request Stop) → MatchResult r (Read a c) (Stuck Requests a) → MatchResult r (λ q. Takes a.bytes.now (arguments q) (parts_in q) q.span × Kept a.bytes.now q) (λ e. Correct a.bytes.now (stopped e))
-  found (Ok q) h = (takes q h, keeps q h)
-  found (Err e) h = stops a.bytes.now bytes e (subst (λ k. Stopped Requests (drop k a.bytes.now) k e) start h)

@@ -9,7 +9,7 @@ use Rattle.store.specs.Limits.{longest_value}
 use Rattle.request.specs.Texts.{Begins}
 use Rattle.request.specs.Grammar.{Arguments, longest_request, crlf, line, count_line, length_line, argument_text, request_text, Lawful}
 use Rattle.request.specs.Answers.{cut, parts_from, parts_of, Finding, taken, more, fault, Opens, Takes, Faults, Correct}
-use Rattle.request.specs.declared.Part.{Part}
+use Rattle.request.specs.declared.taken.Part.{Part}
 use Rattle.request.proofs.Sets.{meet, beyond}
 use Rattle.request.proofs.Free.{request_free}
 use Rattle.request.proofs.Findings.{begun, shorter}

@@ -6,5 +6,4 @@ mod Free
 mod Bytes
 mod Findings
 mod Laws
-mod Parts
 mod Worked

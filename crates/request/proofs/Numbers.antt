@@ -12,7 +12,7 @@ use Rattle.request.specs.Texts.{Short, Strays}
 use Rattle.request.specs.Grammar.{crlf, line}
 use Rattle.request.specs.Steps.{left, Passed, Stuck, Between, Just, Number, Line, NoDigit, Ends, Digit}
 use Rattle.request.specs.declared.reader.Reader.{Reader}
-use Rattle.request.specs.declared.reader.Stop.{Stop}
+use Rattle.request.specs.declared.stop.Stop.{Stop}
 use Rattle.request.proofs.Sets.{meet, Front, Back, after, both}
 
 after_ge : (n : ℕ) (xs : List ℕ) → n ≤ digits_value_after 10 n xs

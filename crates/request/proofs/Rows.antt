@@ -4,15 +4,15 @@ use Rattle.std.proofs.Math.Nat.{sub-zero}
 use Rattle.std.proofs.lemmas.List.{length-replicate}
 use Rattle.std.specs.List.{flat_map, AllByRecursion}
 use Rattle.std.proofs.slice.Lists.{all_by_recursion_push}
-use Rattle.std.proofs.lemmas.List.{length-take-le, length-map, length-set, take_more_set, map_push, flat_map_more}
+use Rattle.std.proofs.lemmas.List.{take_all, take_at, length-map, length-set, take_more_set, map_push, flat_map_more}
 use Rattle.store.specs.Limits.{longest_value}
 use Rattle.request.specs.Grammar.{Arguments, most_arguments, count_line, length_line, argument_text}
 use Rattle.request.specs.Answers.{cut, parts_from, arguments}
-use Rattle.request.specs.Steps.{left, Passed, Stuck, Between, CountLine, Argument, Rows, Requests, Put, Read}
-use Rattle.request.specs.declared.Part.{Part}
+use Rattle.request.specs.Steps.{left, Passed, Stuck, Between, CountLine, Argument, Rows, Requests, Put, PutAll, Read}
+use Rattle.request.specs.declared.taken.Part.{Part}
 use Rattle.request.specs.declared.reader.Reader.{Reader}
-use Rattle.request.specs.declared.reader.Stop.{Stop}
-use Rattle.request.specs.declared.Request.{Request}
+use Rattle.request.specs.declared.stop.Stop.{Stop}
+use Rattle.request.specs.declared.taken.Request.{Request}
 use Rattle.request.proofs.Sets.{Front, Back, front, after, both, stays}
 use Rattle.request.proofs.Numbers.{line_free}
 use Rattle.request.proofs.Arguments.{argument_free}
@@ -82,13 +82,13 @@ part_is p a b e f = ap (λ k. record { place = k; size = p.size }) e ∙ ap (λ 
 
 -- i of n arguments are passed: where they stand, and how what is left carries to the whole
 pub record Sofar (start here : Reader) (n i : ℕ) (parts : List Part) : Type 0 where
-  pub long : length parts ≡ most_arguments
+  pub long : length parts ≡ n
   pub short : AllByRecursion (λ b. length b ≤ longest_value) (map (cut start.bytes.now) (take i parts))
   pub placed : take i parts ≡ parts_from start.at (map (cut start.bytes.now) (take i parts))
   pub passed : Passed start here (flat_map argument_text (map (cut start.bytes.now) (take i parts)))
   pub carries : (e : Stop) → Stuck (Rows (n - i)) here e → Stuck (Rows n) start e
 
-pub none_yet : (r : Reader) (n : ℕ) (parts : List Part) → length parts ≡ most_arguments → Sofar r r n 0 parts
+pub none_yet : (r : Reader) (n : ℕ) (parts : List Part) → length parts ≡ n → Sofar r r n 0 parts
 none_yet r n parts h = record { long = h; short = tt; placed = refl; passed = stays r; carries = λ e s. subst (λ k. Stuck (Rows k) r e) (sub-zero n) s }
 
 -- one more argument
@@ -98,8 +98,8 @@ module _ (start here : Reader) (n i : ℕ) (parts : List Part) (h : Sofar start 
       let more : suc (n - i - 1) ≡ n - i = omega arith in
       h.carries e (subst (λ k. Stuck (Rows k) here e) more (front (Rows (suc (n - i - 1))) Argument (left here) here.at e (front_rows (n - i - 1) (left here)) s))
 
-  pub one_more : (next : Reader) (p : Part) → n ≤ most_arguments → Put here next p → Sofar start next n (i + 1) (set parts i p)
-  one_more next p few q =
+  pub one_more : (next : Reader) (p : Part) → Put here next p → Sofar start next n (i + 1) (set parts i p)
+  one_more next p q =
       let xs = start.bytes.now in
       let same : here.bytes.now ≡ xs = h.passed.same in
       let body = cut xs p in
@@ -128,20 +128,32 @@ module _ (start here : Reader) (n i : ℕ) (parts : List Part) (h : Sofar start 
             (after (Rows (suc (n - i - 1))) (Rows (n - i - 1)) here next (argument_text body) e told (back_rows (n - i - 1) body (left next) size) (subst (λ k. Stuck (Rows k) next e) (sym less) s)));
       }
 
--- the end
-module _ (a b c : Reader) (n : ℕ) (parts : List Part) (h : Between 1 most_arguments n) (first : Passed a b (count_line n)) (all : Sofar b c n n parts) where
-  pub told : Read a c (record { bytes = c.bytes; parts = parts; count = n; span = c.at })
+-- all are passed
+pub put_all : (start here : Reader) (n : ℕ) (parts : List Part) → Sofar start here n n parts → PutAll start here parts
+put_all start here n parts h =
+    let all : take n parts ≡ parts = take_all n parts (omega (arith, h.long)) in
+    let texts : map (cut start.bytes.now) (take n parts) ≡ map (cut start.bytes.now) parts = ap (map (cut start.bytes.now)) all in
+    record {
+      short = subst (AllByRecursion (λ b. length b ≤ longest_value)) texts h.short;
+      placed = sym all ∙ h.placed ∙ ap (parts_from start.at) texts;
+      passed = subst (λ l. Passed start here (flat_map argument_text l)) texts h.passed;
+    }
+
+module _ (a b c : Reader) (n : ℕ) (done rest : List Part) (few : n ≤ most_arguments) (h : Between 1 most_arguments n) (first : Passed a b (count_line n)) (long : length done ≡ n) (put : PutAll b c done) where
+  pub told : Read a c (record { bytes = c.bytes; parts = done ++ rest; count = n; span = c.at; few = few })
   told =
-      let q : Request = record { bytes = c.bytes; parts = parts; count = n; span = c.at } in
+      let q : Request = record { bytes = c.bytes; parts = done ++ rest; count = n; span = c.at; few = few } in
+      let front : take n (done ++ rest) ≡ done = take_at done rest n long in
+      let all : PutAll b c (take n (done ++ rest)) = subst (PutAll b c) (sym front) put in
       let same : b.bytes.now ≡ c.bytes.now = sym all.passed.same in
-      let long : length (arguments q) ≡ n = length-map (take n parts) (cut c.bytes.now) ∙ length-take-le n parts (omega (arith, all.long)) in
-      let args : Passed b c (flat_map argument_text (arguments q)) = subst (λ l. Passed b c (flat_map argument_text (map (cut l) (take n parts)))) same all.passed in
+      let count : length (arguments q) ≡ n = length-map (take n (done ++ rest)) (cut c.bytes.now) ∙ ap length front ∙ long in
+      let args : Passed b c (flat_map argument_text (arguments q)) = subst (λ l. Passed b c (flat_map argument_text (map (cut l) (take n (done ++ rest))))) same all.passed in
       record {
         same = all.passed.same ∙ first.same;
-        count = sym long;
-        fits = (omega arith, omega arith, subst (λ l. AllByRecursion (λ b. length b ≤ longest_value) (map (cut l) (take n parts))) same all.short);
-        placed = subst (λ l. take n parts ≡ parts_from b.at (map (cut l) (take n parts))) same all.placed
-            ∙ ap (λ k. parts_from k (arguments q)) (first.at ∙ ap (λ k. a.at + length (count_line k)) (sym long));
-        passed = subst (λ k. Passed a c (count_line k ++ flat_map argument_text (arguments q))) (sym long) (both a b c (count_line n) (flat_map argument_text (arguments q)) first args);
+        count = sym count;
+        fits = (omega arith, omega arith, subst (λ l. AllByRecursion (λ b. length b ≤ longest_value) (map (cut l) (take n (done ++ rest)))) same all.short);
+        placed = subst (λ l. take n (done ++ rest) ≡ parts_from b.at (map (cut l) (take n (done ++ rest)))) same all.placed
+            ∙ ap (λ k. parts_from k (arguments q)) (first.at ∙ ap (λ k. a.at + length (count_line k)) (sym count));
+        passed = subst (λ k. Passed a c (count_line k ++ flat_map argument_text (arguments q))) (sym count) (both a b c (count_line n) (flat_map argument_text (arguments q)) first args);
         span = refl;
       }

@@ -5,8 +5,8 @@ use Rattle.std.proofs.lemmas.List.{append_cancel_left, drop_all, drop_more}
 use Rattle.request.specs.Texts.{Begins, Short, Strays}
 use Rattle.request.specs.Steps.{left, Passed, Stopped, Just}
 use Rattle.request.specs.declared.reader.Reader.{Reader}
-use Rattle.request.specs.declared.reader.Stop.{Stop}
-use Rattle.request.specs.declared.reader.Stop.TheVariants.{Short as Ended, At}
+use Rattle.request.specs.declared.stop.Stop.{Stop}
+use Rattle.request.specs.declared.stop.Stop.TheVariants.{Short as Ended, At}
 
 -- of two beginnings of one text, one begins the other
 pub meet : (xs ys s t : List ℕ) → xs ++ s ≡ ys ++ t → Begins xs ys ⊎ Begins ys xs

@@ -8,7 +8,7 @@ use Rattle.request.specs.Grammar.{Arguments, crlf, count_line, argument_text, re
 use Rattle.request.specs.Answers.{Takes, Lacks, parts_of}
 use Rattle.request.specs.Laws.{WorkedCases}
 use Rattle.request.specs.Steps.{Just, Number, Line, CountLine, LengthLine, Argument, Rows, Requests}
-use Rattle.request.specs.declared.Part.{Part}
+use Rattle.request.specs.declared.taken.Part.{Part}
 use Rattle.request.proofs.Sets.{front_strays, back_strays, front_just, byte_other}
 use Rattle.request.proofs.Numbers.{zero_strays, ends_high, back_line, back_number}
 use Rattle.request.proofs.Arguments.{front_argument}

@@ -1,11 +1,11 @@
 -- What the reader answers, and which answer is right for given bytes.
-use Rattle.std.specs.Prelude.{◌≡◌, ℕ, ◌+◌, ◌≤◌, List, [], ◌∷◌, map, length, take, drop}
+use Rattle.std.specs.Prelude.{◌≡◌, ℕ, ◌+◌, ◌≤◌, List, [], ◌∷◌, map, length, take, drop, Ok, Err, Result}
 use Rattle.request.specs.Texts.{Begins}
 use Rattle.request.specs.Grammar.{Arguments, length_line, count_line, argument_text, request_text, Lawful}
-use Rattle.request.specs.declared.Part.{Part}
-use Rattle.request.specs.declared.Request.{Request}
-use Rattle.request.specs.declared.Answer.{Answer}
-use Rattle.request.specs.declared.Answer.TheVariants.{Taken, More, Fault}
+use Rattle.request.specs.declared.taken.Part.{Part}
+use Rattle.request.specs.declared.taken.Request.{Request}
+use Rattle.request.specs.declared.stop.ReadError.{ReadError}
+use Rattle.request.specs.declared.stop.ReadError.TheVariants.{More, Fault}
 
 -- ---- where arguments stand
 
@@ -76,18 +76,16 @@ parts_in q = take q.count q.parts
 abbrev pub arguments : Request → Arguments
 arguments q = map (cut q.bytes.now) (parts_in q)
 
-abbrev pub finding : Answer → Finding
-finding (Taken q) = taken (arguments q) (parts_in q) q.span
-finding More = more
-finding (Fault p) = fault p
+abbrev pub refused : ReadError → Finding
+refused More = more
+refused (Fault p) = fault p
+
+abbrev pub finding : Result Request ReadError → Finding
+finding (Ok q) = taken (arguments q) (parts_in q) q.span
+finding (Err e) = refused e
 
 -- a request's bytes are those given, its count is that of its arguments, and it ends within them
 pub record Kept (s : List ℕ) (q : Request) : Type 0 where
   pub bytes : q.bytes.now ≡ s
   pub count : q.count ≡ length (arguments q)
   pub within : q.span ≤ length s
-
-abbrev pub KeptBy : List ℕ → Answer → Type 0
-KeptBy s (Taken q) = Kept s q
-KeptBy s More = Unit {0}
-KeptBy s (Fault p) = Unit {0}

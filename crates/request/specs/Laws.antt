@@ -2,7 +2,7 @@
 use Rattle.std.specs.Prelude.{◌≡◌, ℕ, ◌+◌, ◌<◌, ◌≤◌, List, [], ◌∷◌, ◌++◌, length, take}
 use Rattle.request.specs.Grammar.{Arguments, request_text, longest_request, Lawful}
 use Rattle.request.specs.Answers.{Finding, taken, more, fault, Correct}
-use Rattle.request.specs.declared.Part.{Part}
+use Rattle.request.specs.declared.taken.Part.{Part}
 
 pub record FindingLaws : Type 0 where
   pub one : (s : List ℕ) (f g : Finding) → Correct s f → Correct s g → f ≡ g

@@ -1,15 +1,15 @@
 -- What each step of the reader says.
-use Rattle.std.specs.Prelude.{◌≡◌, ℕ, ◌+◌, ◌<◌, ◌≤◌, List, ◌∷◌, ◌++◌, length, drop, decimal, ◌≢◌}
+use Rattle.std.specs.Prelude.{◌≡◌, ℕ, ◌+◌, ◌<◌, ◌≤◌, List, ◌∷◌, ◌++◌, map, length, drop, decimal, ◌≢◌}
 use Rattle.std.specs.List.{flat_map, AllByRecursion}
 use Rattle.store.specs.Limits.{longest_value}
 use Rattle.request.specs.Texts.{Short, Strays}
 use Rattle.request.specs.Grammar.{Arguments, most_arguments, crlf, line, count_line, length_line, argument_text, request_text, Fits}
 use Rattle.request.specs.Answers.{cut, parts_from, parts_in, arguments, Finding, more, fault}
-use Rattle.request.specs.declared.Part.{Part}
-use Rattle.request.specs.declared.Request.{Request}
+use Rattle.request.specs.declared.taken.Part.{Part}
+use Rattle.request.specs.declared.taken.Request.{Request}
 use Rattle.request.specs.declared.reader.Reader.{Reader}
-use Rattle.request.specs.declared.reader.Stop.{Stop}
-use Rattle.request.specs.declared.reader.Stop.TheVariants.{Short as Ended, At}
+use Rattle.request.specs.declared.stop.Stop.{Stop}
+use Rattle.request.specs.declared.stop.Stop.TheVariants.{Short as Ended, At}
 
 -- what is left to read
 abbrev pub left : Reader → List ℕ
@@ -98,6 +98,12 @@ pub record Put (old new : Reader) (p : Part) : Type 0 where
   pub place : p.place ≡ old.at + length (length_line p.size)
   pub long : length (cut old.bytes.now p) ≡ p.size
   pub passed : Passed old new (argument_text (cut old.bytes.now p))
+
+-- as many arguments as parts were passed, and the parts are where their bytes stand
+pub record PutAll (old new : Reader) (parts : List Part) : Type 0 where
+  pub short : AllByRecursion (λ b. length b ≤ longest_value) (map (cut old.bytes.now) parts)
+  pub placed : parts ≡ parts_from old.at (map (cut old.bytes.now) parts)
+  pub passed : Passed old new (flat_map argument_text (map (cut old.bytes.now) parts))
 
 -- a request was passed, and q tells it
 pub record Read (old new : Reader) (q : Request) : Type 0 where

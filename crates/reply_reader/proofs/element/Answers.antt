@@ -1,6 +1,5 @@
-use Rattle.std.proofs.Common.{inr}
-use Rattle.reply_reader.proofs.One.{no_reply}
+use Rattle.reply_reader.proofs.One.{unread}
 use Rattle.reply_reader.proofs.element.Goals as goal
 
-pub returns-in-Err : goal.returns-in-Err
-returns-in-Err c = inr (no_reply c.args.rest.now _ c.in-Err.ensures)
+pub returns-clause-none : goal.returns-clause-none
+returns-clause-none c = rw c.ok.ensures.value (unread c.args.rest.now c.args.left c.read_value.result c.read_value.ensures)

@@ -1,14 +1,12 @@
-use Rattle.std.proofs.Common.{length, ap, arith, length-append}
-use Rattle.reply.specs.Replies.{bytes_of}
+use Rattle.std.proofs.Common.{rules}
+use Rattle.std.proofs.lemmas.Result.{err_from_is_err_and, IfErr-at_err}
+use Rattle.reply_reader.specs.Reading.{Says, Refused}
+use Rattle.reply_reader.proofs.One.{seen_from_front}
 use Rattle.reply_reader.proofs.read_within.Goals as goal
 
-pub overflow_sub-result : goal.overflow_sub-result
-overflow_sub-result c =
-    let told = c.in-Ok.ensures in
-    omega (arith, ap length told.3, length-append (bytes_of told.0) c.in-Ok.found.rest.now)
-
-pub returns-in-Ok : goal.returns-in-Ok
-returns-in-Ok c =
-    let told = c.in-Ok.ensures in
-    let rest = c.in-Ok.found.rest.now in
-    (told.0, told.1, told.2, (rest, told.3), omega (arith, ap length told.3, length-append (bytes_of told.0) rest))
+pub returns-in_err-found : goal.returns-in_err-found
+returns-in_err-found c =
+    let p = err_from_is_err_and c.from_residual.result c.from_residual.ensures.1 in
+    let d = c.args.depth in
+    let s = c.args.bytes.now in
+    rw (p.1, p.2) (IfErr-at_err (Refused (Says d) s) c.in_err-found.was (seen_from_front d s c.read_value.result c.map_err.result _ c.read_value.ensures c.map_err.ensures.cases (λ stop e k. search rules)))

@@ -1,18 +1,12 @@
-use Rattle.std.proofs.Common.{◌++◌, drop, sym, ap, ◌∙◌, subst, arith, take-append-drop}
-use Rattle.std.specs.List.{AllByRecursion}
-use Rattle.reply.specs.Replies.{Byte}
+use Rattle.std.proofs.Common.{arith}
 use Rattle.reply.proofs.Letters.{bytes_from}
-use Rattle.reply_reader.proofs.Lines.{sized_short, every_take}
+use Rattle.reply_reader.specs.Steps.{Stopped, Sized}
+use Rattle.reply_reader.proofs.Sets.{missed}
+use Rattle.reply_reader.proofs.Lines.{sized_short}
 use Rattle.reply_reader.proofs.steps.part.Goals as goal
 
-pub returns-in-None : goal.returns-in-None
-returns-in-None c = sized_short c.args.size c.args.bytes.now (bytes_from _ (λ i. omega (arith, c.type_inv.bytes i))) c.in-None.ensures.cases
-
-pub returns-in-Some : goal.returns-in-Some
-returns-in-Some c =
-    let e = c.in-Some.ensures.cases in
+pub returns-clause-stopped : goal.returns-clause-stopped
+returns-clause-stopped c =
     let s = c.args.bytes.now in
-    let n = c.args.size in (
-      (e.3, subst (AllByRecursion Byte) (sym e.1) (every_take Byte s n e.0 (λ k lt. omega (arith, c.type_inv.bytes k)))),
-      sym (take-append-drop n s) ∙ ap (λ l. l ++ drop n s) (sym e.1) ∙ ap (λ l. c.in-Some.it.now ++ l) (sym e.2),
-    )
+    let n = c.args.size in
+    rw c.ok_or.ensures.value (missed c.split_at_checked.result _ _ _ (Stopped (Sized n) s) c.split_at_checked.ensures.cases (λ h. sized_short n s (bytes_from s (λ i. omega (arith, c.type_inv.bytes i))) h))

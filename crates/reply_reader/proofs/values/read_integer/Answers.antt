@@ -8,4 +8,4 @@ use Rattle.reply_reader.proofs.values.read_integer.Goals as goal
 pub returns-in_err-n : goal.returns-in_err-n
 returns-in_err-n c =
     let p = err_from_is_err_and c.from_residual.result c.from_residual.ensures.1 in
-    rw (p.1, p.2) (λ d. back (After 58 d) Integers [] _ _ _ refl (kind_integer d _) c.in_err-n.ensures)
+    rw (p.1, p.2) (λ d. back (After 58 d) Integers [] _ _ _ refl (kind_integer d _) c.in_err-n.ensures.stopped)

@@ -6,32 +6,32 @@ use Rattle.request.proofs.Sets.{front, after, both}
 use Rattle.request.proofs.Numbers.{front_line, back_line, stuck_after}
 use Rattle.request.proofs.reader.Reader.number.Goals as goal
 
-pub returns-in_err-byte : goal.returns-in_err-byte
-returns-in_err-byte c =
+pub returns-in_err-byte-clause-stuck : goal.returns-in_err-byte-clause-stuck
+returns-in_err-byte-clause-stuck c =
     let p = err_from_is_err_and c.from_residual.result c.from_residual.ensures.1 in
     let mark = c.args.mark in
-    let low = c.args.low in
-    let high = c.args.high in
-    rw (p.1, p.2) (front (Line mark low high) (Just (mark ∷ [])) _ _ _ (front_line mark low high _ (omega arith) (omega arith)) c.in_err-byte.ensures)
+    let low = c.args.bounds.low in
+    let high = c.args.bounds.high in
+    rw (p.1, p.2) (front (Line mark low high) (Just (mark ∷ [])) _ _ _ (front_line mark low high _ (omega arith) (omega arith)) c.in_err-byte.ensures.stuck)
 
-pub returns-in_err-n : goal.returns-in_err-n
-returns-in_err-n c =
+pub returns-in_err-n-clause-stuck : goal.returns-in_err-n-clause-stuck
+returns-in_err-n-clause-stuck c =
     let p = err_from_is_err_and c.from_residual-in_err-n.result c.from_residual-in_err-n.ensures.1 in
     let mark = c.args.mark in
-    let low = c.args.low in
-    let high = c.args.high in
-    rw (p.1, p.2) (after (Line mark low high) (Number low high) _ _ (mark ∷ []) _ c.in_ok-byte.ensures (back_line mark low high _) c.in_err-n.ensures)
+    let low = c.args.bounds.low in
+    let high = c.args.bounds.high in
+    rw (p.1, p.2) (after (Line mark low high) (Number low high) _ _ (mark ∷ []) _ c.in_ok-byte.ensures.passed (back_line mark low high _) c.in_err-n.ensures.stuck)
 
-pub returns-in_err-line_end : goal.returns-in_err-line_end
-returns-in_err-line_end c =
+pub returns-in_err-line_end-clause-stuck : goal.returns-in_err-line_end-clause-stuck
+returns-in_err-line_end-clause-stuck c =
     let p = err_from_is_err_and c.from_residual-in_err-line_end.result c.from_residual-in_err-line_end.ensures.1 in
     let told = c.in_ok-n.ensures in
-    rw (p.1, p.2) (stuck_after c.args.mark c.args.low c.args.high c.in_ok-n.n c.args.self.now c.byte.new.self c.digits.new.self _ (omega arith) c.in_ok-byte.ensures told.0 told.1 told.2 c.in_err-line_end.ensures)
+    rw (p.1, p.2) (stuck_after c.args.mark c.args.bounds.low c.args.bounds.high c.in_ok-n.n c.args.self.now c.byte.new.self c.digits.new.self _ (omega arith) c.in_ok-byte.ensures.passed told.within told.passed told.ends c.in_err-line_end.ensures.stuck)
 
-pub returns : goal.returns
-returns c =
+pub returns-clause-passed : goal.returns-clause-passed
+returns-clause-passed c =
     let n = c.in_ok-n.n in
     let told = c.in_ok-n.ensures in
     let a = c.args.self.now in
     let b = c.digits.new.self in
-    (told.0, both a b c.line_end.new.self (c.args.mark ∷ decimal n) crlf (both a c.byte.new.self b (c.args.mark ∷ []) (decimal n) c.in_ok-byte.ensures told.1) c.in_ok-line_end.ensures)
+    both a b c.line_end.new.self (c.args.mark ∷ decimal n) crlf (both a c.byte.new.self b (c.args.mark ∷ []) (decimal n) c.in_ok-byte.ensures.passed told.passed) c.in_ok-line_end.ensures.passed
