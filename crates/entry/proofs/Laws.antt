@@ -6,7 +6,7 @@ use Rattle.std.proofs.lemmas.List.{take_at, drop_at, length-append, length_push,
 use Rattle.std.proofs.lemmas.Bool.{leb-true, cond_both, cond-true, cond-false, lt-ltb, le-ltb}
 use Rattle.std.proofs.lemmas.Bool.Decides.{nat_tests}
 use Rattle.decimal.specs.Integer.{integer}
-use Rattle.decimal.proofs.Laws.{reads, writes}
+use Rattle.decimal.specs.NumberLaws.{reads, writes}
 use Rattle.store.specs.Limits.{longest_value}
 use Rattle.entry.specs.Entry.{residue, low, number, text, body_of, body, entry, told, span_in, longest_entry}
 use Rattle.entry.specs.Reading.{number_in, text_in, other, text_of, either, value_in}
