@@ -9,7 +9,7 @@ use Rattle.std.proofs.lemmas.Fmt.{digits_decimal, digits_value-decimal, decimal_
 use Rattle.std.proofs.lemmas.Str.{IsUtf8-from_ascii}
 use Rattle.std.proofs.lemmas.Bool.{and_parts, eqb-true, ltb-true, lt-ltb, ne_eqb, cond-true, cond-false}
 use Rattle.std.proofs.lemmas.Bool.Decides.{nat_tests}
-use Rattle.decimal.specs.Integer.{plain, number, natural, above, below, integer}
+use Rattle.decimal.specs.Integer.{longest_text, plain, number, natural, above, below, integer}
 
 pub own : IsNumeralModel (λ ds. all_ascii_digits ds ≡ true) (digits_value 10)
 own = numerals_by_value _ tells_all_ascii_digits
@@ -112,3 +112,7 @@ is_text z f = IsUtf8-from_ascii (signed_decimal z) (IsAscii-signed z (small z f)
 
 pub is_natural_text : (n : ℕ) → n < 2 ^ 64 → IsUtf8 (decimal n)
 is_natural_text n f = IsUtf8-from_ascii (decimal n) (IsAscii-decimal n f)
+
+-- the most bytes of a text, by std
+pub is_short : 20 ≤ longest_text
+is_short = omega arith

@@ -3,13 +3,12 @@
 
 ghost use Rattle.std.specs.Prelude.{◌≡◌, ℕ, ◌<◌, ◌≤◌, ◌^◌, ◌++◌, List, length, drop, Option, Some, Ok, IsTrue, ◌↔◌, IsUtf8, FitsSigned};
 ghost use Rattle.std.specs.Int.{w64};
-ghost use Rattle.std.proofs.Common.{rules};
 ghost use Rattle.decimal.specs.Integer.{longest_text, natural, integer, TextLaws};
-ghost use Rattle.decimal.specs.NumberLaws.{reads, writes, reads_natural, writes_natural, parses, parses_natural, parsed, parsed_natural, is_text, is_natural_text};
+ghost use Rattle.decimal.specs.NumberLaws.{reads, writes, reads_natural, writes_natural, parses, parses_natural, parsed, parsed_natural, is_text, is_natural_text, is_short};
 
 use itoa::{Buffer, Integer};
-use std::str;
-use std::str::FromStr;
+use std::num::ParseIntError;
+use std::str::{self, FromStr};
 
 // The most bytes that the text of a number has.
 pub const LONGEST_TEXT: usize = 20;
@@ -20,7 +19,7 @@ fn texts_are_lawful()
 {}
 
 // A type whose numbers have one text each, which is the one that std writes.
-pub trait Decimal: Integer + FromStr<Err = std::num::ParseIntError> {
+pub trait Decimal: Integer + FromStr<Err = ParseIntError> {
     // The number that a text writes, if it writes one.
     ghost number: { List ℕ → Option Self };
 
@@ -58,7 +57,7 @@ impl Decimal for u64 {
 
     ghost is_text = { is_natural_text };
 
-    ghost is_short = { Prim.search rules };
+    ghost is_short = { is_short };
 }
 
 impl Decimal for i64 {
@@ -76,7 +75,7 @@ impl Decimal for i64 {
 
     ghost is_text = { is_text };
 
-    ghost is_short = { Prim.search rules };
+    ghost is_short = { is_short };
 }
 
 // Whether a text is the one of a number.
