@@ -7,6 +7,7 @@ use Rattle.std.specs.Str.{all_ascii_digits}
 use Rattle.std.proofs.lemmas.Str.Parse.{IsNumeralModel, numerals_by_value, tells_all_ascii_digits}
 use Rattle.std.proofs.lemmas.Fmt.{digits_decimal, digits_value-decimal, decimal_nonempty, first_decimal, decimal-digits_value, decimal_digit, parse-decimal, parse-signed_decimal, IsAscii-decimal, IsAscii-signed}
 use Rattle.std.proofs.lemmas.Str.{IsUtf8-from_ascii}
+use Rattle.std.proofs.lemmas.Option.{cond_some}
 use Rattle.std.proofs.lemmas.Bool.{and_parts, eqb-true, ltb-true, lt-ltb, ne_eqb, cond-true, cond-false}
 use Rattle.std.proofs.lemmas.Bool.Decides.{nat_tests}
 use Rattle.decimal.specs.Integer.{longest_text, plain, number, natural, above, below, integer}
@@ -27,19 +28,15 @@ writes_natural n h =
     let e : natural (decimal n) ≡ Some (digits_value 10 (decimal n)) = grind (arith, nat_tests) in
     e ∙ ap Some v
 
--- a chosen one
-taken : {X : Type 0} (b : Bool) (x z : X) → cond b (Some x) None ≡ Some z → (b ≡ true) × (x ≡ z)
-taken true x z e = (refl, cc)
-taken false x z e = let bad : ◌≡◌ {A = ℕ} 0 1 = cc in absurd (omega arith)
-
-kept : {X : Type 0} (b : Bool) (o : Option X) (z : X) → cond b o None ≡ Some z → (b ≡ true) × (o ≡ Some z)
+-- a chosen one, where it is some
+pub kept : {X : Type 0} (b : Bool) (o : Option X) (z : X) → cond b o None ≡ Some z → (b ≡ true) × (o ≡ Some z)
 kept true o z e = (refl, e)
 kept false o z e = let bad : ◌≡◌ {A = ℕ} 0 1 = cc in absurd (omega arith)
 
 pub reads_natural : (t : List ℕ) (n : ℕ) → natural t ≡ Some n → (t ≡ decimal n) × (n < 2 ^ 64)
 reads_natural t n e =
     let k = kept (plain t) (number t) n e in
-    let q = taken (all_ascii_digits t && ltb (digits_value 10 t) (2 ^ 64)) (digits_value 10 t) n k.1 in
+    let q = cond_some (all_ascii_digits t && ltb (digits_value 10 t) (2 ^ 64)) (digits_value 10 t) n k.1 in
     let p = k.0 in
     let b = q.0 in
     let l : digits_value 10 t < 2 ^ 64 = grind (arith, nat_tests) in
@@ -64,7 +61,7 @@ writes (negsuc n) f = ap below (writes_natural (suc n) (omega arith)) ∙ cond-t
 reads_plus : (o : Option ℕ) (t : List ℕ) (z : ℤ) → natural t ≡ o → above o ≡ Some z → (t ≡ signed_decimal z) × SFits w64 z
 reads_plus None t z n e = let bad : ◌≡◌ {A = ℕ} 0 1 = cc in absurd (omega arith)
 reads_plus (Some m) t z n e =
-    let q = taken (ltb m (2 ^ 63)) (pos m) z e in
+    let q = cond_some (ltb m (2 ^ 63)) (pos m) z e in
     ((reads_natural t m n).0 ∙ ap signed_decimal q.1, subst (SFits w64) q.1 (record { sfits = ltb-true _ _ q.0 }))
 
 small : (z : ℤ) → SFits w64 z → mag z < 2 ^ 63
@@ -78,7 +75,7 @@ below_zero (suc n) p h = (refl, record { sfits = omega arith })
 reads_minus : (o : Option ℕ) (t : List ℕ) (z : ℤ) → natural t ≡ o → below o ≡ Some z → (45 ∷ t ≡ signed_decimal z) × SFits w64 z
 reads_minus None t z n e = let bad : ◌≡◌ {A = ℕ} 0 1 = cc in absurd (omega arith)
 reads_minus (Some m) t z n e =
-    let q = taken (ltb 0 m && leb m (2 ^ 63)) (neg_ℤ (pos m)) z e in
+    let q = cond_some (ltb 0 m && leb m (2 ^ 63)) (neg_ℤ (pos m)) z e in
     let w = q.0 in
     let v : (0 < m) × (m ≤ 2 ^ 63) = grind (arith, nat_tests) in
     let b = below_zero m v.0 v.1 in

@@ -1,8 +1,10 @@
 -- The six forms of an integer and the two of a text: what is read of each, and that nothing else is read.
-use Rattle.std.proofs.Common.{◌≡◌, ℕ, suc, ◌+◌, ◌-◌, ◌*◌, ◌/◌, ◌%◌, ◌^◌, ◌<◌, ◌≤◌, Bool, true, false, cond, ◌&&◌, eqb, ltb, leb, List, [], ◌∷◌, length, get_or, drop, ℤ, pos, negsuc, Some, None, Option, sym, refl, ap, ◌∙◌, subst, true≢false, arith, w64, SFits}
+use Rattle.std.proofs.Common.{◌≡◌, ℕ, suc, ◌+◌, ◌-◌, ◌*◌, ◌/◌, ◌%◌, ◌^◌, ◌<◌, ◌≤◌, Bool, true, false, ◌&&◌, eqb, ltb, leb, List, [], ◌∷◌, length, get_or, drop, ℤ, pos, negsuc, Some, None, Option, sym, refl, ap, ◌∙◌, subst, true≢false, arith, w64, SFits}
 use Rattle.std.specs.Int.Signed.{mag}
 use Rattle.std.proofs.lemmas.Bool.Decides.{nat_tests}
+use Rattle.std.proofs.lemmas.Option.{cond_some}
 use Rattle.std.proofs.lemmas.Bool.{leb-true, leb-false, le-leb, lt-leb, cond_both, cond-true, cond-false, ltb-true, ltb-false, eqb-true, lt-ltb, le-ltb}
+use Rattle.decimal.specs.NumberLaws.{kept}
 use Rattle.store.specs.Limits.{longest_value}
 use Rattle.entry.specs.Entry.{residue, low, fits, tiny, thirteen, wide, number, text}
 use Rattle.entry.specs.declared.Width.{Width}
@@ -63,14 +65,6 @@ number_back z f = number_cases (λ bs. number_in bs ≡ Some z) z f
 
 -- ---- what is read has that form
 
-pub taken : {X : Type 0} (b : Bool) (x z : X) → cond b (Some x) None ≡ Some z → (b ≡ true) × (x ≡ z)
-taken true x z e = (refl, cc)
-taken false x z e = let bad : ◌≡◌ {A = ℕ} 0 1 = cc in absurd (omega arith)
-
-kept : {X : Type 0} (b : Bool) (o : Option X) (z : X) → cond b o None ≡ Some z → (b ≡ true) × (o ≡ Some z)
-kept true o z e = (refl, e)
-kept false o z e = let bad : ◌≡◌ {A = ℕ} 0 1 = cc in absurd (omega arith)
-
 left : (b : Bool) (x z : ℤ) → unless b x ≡ Some z → (b ≡ false) × (x ≡ z)
 left true x z e = let bad : ◌≡◌ {A = ℕ} 0 1 = cc in absurd (omega arith)
 left false x z e = (refl, cc)
@@ -79,7 +73,7 @@ tiny_forth : (bs : List ℕ) (z : ℤ) → length bs ≡ 1 → tiny_in (get_or b
 tiny_forth [] z l e = absurd (omega arith)
 tiny_forth (b ∷ c ∷ bs) z l e = absurd (omega arith)
 tiny_forth (b ∷ []) z l e =
-    let q = taken (ltb b 128) (pos b) z e in
+    let q = cond_some (ltb b 128) (pos b) z e in
     let h = ltb-true b 128 q.0 in
     (sym (is_tiny b h) ∙ ap number q.1, subst (SFits w64) q.1 (record { sfits = omega arith }))
 
