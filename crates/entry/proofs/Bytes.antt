@@ -1,7 +1,7 @@
 -- Two's complement, and numbers in bytes.
-use Rattle.std.proofs.Common.{◌≡◌, ℕ, zero, suc, ◌+◌, ◌-◌, ◌*◌, ◌/◌, ◌%◌, ◌^◌, ◌<◌, ◌≤◌, Bool, true, false, cond, ltb, List, [], ◌∷◌, length, get_or, take, ℤ, pos, negsuc, sym, refl, ap, ◌∙◌, mod-eq_of_lt, mul_assoc, pow-suc, arith}
+use Rattle.std.proofs.Common.{◌≡◌, ℕ, zero, suc, ◌+◌, ◌-◌, ◌*◌, ◌/◌, ◌%◌, ◌^◌, ◌<◌, Bool, true, false, cond, ltb, List, [], ◌∷◌, length, get_or, ℤ, pos, negsuc, refl, ap, mod-eq_of_lt, pow-suc, arith}
 use Rattle.std.specs.Int.Signed.{mag}
-use Rattle.std.proofs.lemmas.Nat.{mod_below, div_below, div-add-mod'}
+use Rattle.std.proofs.lemmas.Nat.{mod_below, div_below}
 use Rattle.std.proofs.lemmas.Bool.{ltb-true, ltb-false}
 use Rattle.std.proofs.lemmas.Bool.Decides.{nat_tests}
 use Rattle.entry.specs.Entry.{residue, low}
@@ -59,20 +59,3 @@ unlow_lt (b ∷ bs) h =
     let k : b < 256 = h 0 in
     let p : 256 ^ suc (length bs) ≡ 256 ^ length bs * 256 = pow-suc 256 (length bs) in
     omega (arith, p)
-
-low_high : (n q r : ℕ) → low n (q * 256 ^ n + r) ≡ low n r
-low_high zero q r = refl
-low_high (suc n) q r =
-    let e : q * 256 ^ suc n ≡ q * 256 ^ n * 256 = rw pow-suc (sym (mul_assoc q (256 ^ n) 256)) in
-    let ih = low_high n q (r / 256) in
-    let a : (q * 256 ^ suc n + r) % 256 ≡ r % 256 = omega arith in
-    let b : (q * 256 ^ suc n + r) / 256 ≡ q * 256 ^ n + r / 256 = omega arith in
-    cc
-
-pub low_mod : (n u : ℕ) → low n (u % 256 ^ n) ≡ low n u
-low_mod n u = sym (low_high n (u / 256 ^ n) (u % 256 ^ n)) ∙ ap (low n) (div-add-mod' u (256 ^ n))
-
-pub take_low : (n m u : ℕ) → n ≤ m → take n (low m u) ≡ low n u
-take_low zero m u h = refl
-take_low (suc n) zero u h = absurd (omega arith)
-take_low (suc n) (suc m) u h = ap (λ xs. u % 256 ∷ xs) (take_low n m (u / 256) (omega arith))

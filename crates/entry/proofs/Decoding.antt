@@ -1,11 +1,11 @@
 -- What is decoded is the value whose entry the bytes begin with.
 use Rattle.std.proofs.Common.{◌≡◌, ℕ, zero, suc, ◌+◌, ◌-◌, ◌<◌, ◌≤◌, eqb, List, [], ◌∷◌, ◌++◌, length, get_or, take, drop, Some, None, Option, sym, refl, ap, ◌∙◌, append_assoc, arith}
 use Rattle.std.proofs.lemmas.List.{take_at, get_or_at, drop_more, length-take-le, take-append-drop}
+use Rattle.std.proofs.lemmas.Option.{cond_some}
 use Rattle.std.proofs.lemmas.Bool.{cond-true, eq-eqb, eqb-true}
 use Rattle.store.specs.Answers.{over}
 use Rattle.entry.specs.Entry.{body, entry, span_in, Begins, Decoded, ReadsBack}
 use Rattle.entry.specs.Reading.{value_in, measured, size_in, Taken}
-use Rattle.entry.proofs.Forms.{taken}
 use Rattle.entry.proofs.Laws.{body_back, body_forth, length_entry, span_entry, apart}
 
 -- ---- the length after an encoding and its data
@@ -16,7 +16,7 @@ size_right bytes n = go (span_in bytes)
     go : (o : Option ℕ) → measured bytes o ≡ Some n → get_or bytes n 0 ≡ n
     go None e = let bad : ◌≡◌ {A = ℕ} 0 1 = cc in absurd (omega arith)
     go (Some s) e =
-        let q = taken (eqb (get_or bytes (s - 1) 0) (s - 1)) (s - 1) n e in
+        let q = cond_some (eqb (get_or bytes (s - 1) 0) (s - 1)) (s - 1) n e in
         let r = eqb-true (get_or bytes (s - 1) 0) (s - 1) q.0 in
         ap (λ k. get_or bytes k 0) (sym q.1) ∙ r ∙ q.1
 

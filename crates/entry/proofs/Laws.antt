@@ -6,9 +6,12 @@ use Rattle.std.proofs.lemmas.List.{take_at, drop_at, length-append, length_push,
 use Rattle.std.proofs.lemmas.Bool.{leb-true, cond_both, cond-true, cond-false, lt-ltb, le-ltb}
 use Rattle.std.proofs.lemmas.Bool.Decides.{nat_tests}
 use Rattle.decimal.specs.Integer.{integer}
-use Rattle.decimal.proofs.Laws.{reads, writes}
+use Rattle.decimal.specs.NumberLaws.{reads, writes}
 use Rattle.store.specs.Limits.{longest_value}
-use Rattle.entry.specs.Entry.{residue, low, number, text, body_of, body, entry, told, span_in, longest_entry}
+use Rattle.entry.specs.Entry.{residue, low, wide, number, text, body_of, body, entry, told, span_in, longest_entry}
+use Rattle.entry.specs.declared.Width.{Width}
+use Rattle.entry.specs.declared.Width.TheVariants.{Bits16, Bits24, Bits32, Bits64}
+use Rattle.entry.specs.Widths.{code_of, size_of}
 use Rattle.entry.specs.Reading.{number_in, text_in, other, text_of, either, value_in}
 use Rattle.entry.proofs.Bytes.{residue_lt, low_bytes}
 use Rattle.entry.proofs.Forms.{number_cases, number_back, number_forth, text_back, text_forth}
@@ -27,16 +30,21 @@ kind v = go (integer v) refl
 
 -- ---- lengths
 
-pub number_few : (z : ℤ) → (1 ≤ length (number z)) × (length (number z) ≤ 9)
-number_few z = number_cases (λ bs. (1 ≤ length bs) × (length bs ≤ 9)) z
-    (λ n e h. (omega arith, omega arith)) (λ _ _. (omega arith, omega arith)) (λ _ _. (omega arith, omega arith)) (λ _ _. (omega arith, omega arith)) (λ _ _. (omega arith, omega arith)) (λ _. (omega arith, omega arith))
+number_few : (z : ℤ) → SFits w64 z → (1 ≤ length (number z)) × (length (number z) ≤ 9)
+number_few z f = number_cases (λ bs. (1 ≤ length bs) × (length bs ≤ 9)) z f (λ n e h. (omega arith, omega arith)) (λ _ _. (omega arith, omega arith)) (λ w _. (omega arith, few w))
+  where
+    few : (w : Width) → length (wide (code_of w) (size_of w) z) ≤ 9
+    few Bits16 = omega arith
+    few Bits24 = omega arith
+    few Bits32 = omega arith
+    few Bits64 = omega arith
 
 text_few : (v : List ℕ) → length v ≤ longest_value → (1 ≤ length (text v)) × (length (text v) ≤ 66)
 text_few v h = cond_both (leb (length v) 63) _ _ (λ bs. (1 ≤ length bs) × (length bs ≤ 66)) (λ _. (omega arith, omega arith)) (λ _. (omega arith, omega arith))
 
 pub body_few : (v : List ℕ) → length v ≤ longest_value → (1 ≤ length (body v)) × (length (body v) ≤ 66)
 body_few v h = elim (kind v) [
-  | an_integer z f e b ↦ (let n = number_few z in (omega (arith, ap length b), omega (arith, ap length b)))
+  | an_integer z f e b ↦ (let n = number_few z f in (omega (arith, ap length b), omega (arith, ap length b)))
   | a_text e b ↦ (let n = text_few v h in (omega (arith, ap length b), omega (arith, ap length b)))
 ]
 
@@ -82,13 +90,19 @@ body_forth bs v h = go (number_in bs) refl
 
 -- ---- spans
 
-told_number : (z : ℤ) (x : List ℕ) → told (number z ++ x) ≡ length (number z)
-told_number z x = number_cases (λ bs. told (bs ++ x) ≡ length bs) z
+told_number : (z : ℤ) (x : List ℕ) → SFits w64 z → told (number z ++ x) ≡ length (number z)
+told_number z x f = number_cases (λ bs. told (bs ++ x) ≡ length bs) z f
     (λ n e h. cond-true (ltb n 128) _ _ (lt-ltb _ _ h))
     (λ _ _. let l = residue_lt (2 ^ 13) z (omega arith) in
     cond-false (ltb (192 + residue (2 ^ 13) z / 256) 128) _ _ (le-ltb _ _ (omega arith)) ∙ cond-false (ltb (192 + residue (2 ^ 13) z / 256) 192) _ _ (le-ltb _ _ (omega arith))
     ∙ cond-true (ltb (192 + residue (2 ^ 13) z / 256) 224) _ _ (lt-ltb _ _ (omega arith)))
-    (λ _ _. refl) (λ _ _. refl) (λ _ _. refl) (λ _. refl)
+    (λ w _. wide_told w)
+  where
+    wide_told : (w : Width) → told (wide (code_of w) (size_of w) z ++ x) ≡ length (wide (code_of w) (size_of w) z)
+    wide_told Bits16 = refl
+    wide_told Bits24 = refl
+    wide_told Bits32 = refl
+    wide_told Bits64 = refl
 
 told_text : (v x : List ℕ) → length v ≤ longest_value → told (text v ++ x) ≡ length (text v)
 told_text v x h = cond_both (leb (length v) 63) _ _ (λ bs. told (bs ++ x) ≡ length bs)
@@ -100,7 +114,7 @@ told_text v x h = cond_both (leb (length v) 63) _ _ (λ bs. told (bs ++ x) ≡ l
 
 told_body : (v x : List ℕ) → length v ≤ longest_value → told (body v ++ x) ≡ length (body v)
 told_body v x h = elim (kind v) [
-  | an_integer z f e b ↦ ap (λ bs. told (bs ++ x)) b ∙ told_number z x ∙ sym (ap length b)
+  | an_integer z f e b ↦ ap (λ bs. told (bs ++ x)) b ∙ told_number z x f ∙ sym (ap length b)
   | a_text e b ↦ ap (λ bs. told (bs ++ x)) b ∙ told_text v x h ∙ sym (ap length b)
 ]
 
@@ -154,11 +168,17 @@ both [] cs i h k = k i
 both (b ∷ bs) cs zero h k = h 0
 both (b ∷ bs) cs (suc i) h k = both bs cs i (λ j. h (suc j)) k
 
-number_bytes : (z : ℤ) (i : ℕ) → get_or (number z) i 0 < 256
-number_bytes z i = number_cases (λ bs. get_or bs i 0 < 256) z
+number_bytes : (z : ℤ) (i : ℕ) → SFits w64 z → get_or (number z) i 0 < 256
+number_bytes z i f = number_cases (λ bs. get_or bs i 0 < 256) z f
     (λ n e h. one n i (omega arith))
     (λ _ _. let l = residue_lt (2 ^ 13) z (omega arith) in two (192 + residue (2 ^ 13) z / 256) (residue (2 ^ 13) z % 256) i (omega arith) (omega arith))
-    (λ _ _. more 241 (low 2 _) i (omega arith) (low_bytes 2 _)) (λ _ _. more 242 (low 3 _) i (omega arith) (low_bytes 3 _)) (λ _ _. more 243 (low 4 _) i (omega arith) (low_bytes 4 _)) (λ _. more 244 (low 8 _) i (omega arith) (low_bytes 8 _))
+    (λ w _. more (code_of w) (low (size_of w) _) i (code w) (low_bytes (size_of w) _))
+  where
+    code : (w : Width) → code_of w < 256
+    code Bits16 = omega arith
+    code Bits24 = omega arith
+    code Bits32 = omega arith
+    code Bits64 = omega arith
 
 text_bytes : (v : List ℕ) (i : ℕ) → length v ≤ longest_value → ((j : ℕ) → get_or v j 0 < 256) → get_or (text v) i 0 < 256
 text_bytes v i h b = cond_both (leb (length v) 63) _ _ (λ bs. get_or bs i 0 < 256)
@@ -167,7 +187,7 @@ text_bytes v i h b = cond_both (leb (length v) 63) _ _ (λ bs. get_or bs i 0 < 2
 
 pub entry_bytes : (v : List ℕ) → length v ≤ longest_value → ((i : ℕ) → get_or v i 0 < 256) → (i : ℕ) → get_or (entry v) i 0 < 256
 entry_bytes v h b i = both (body v) (length (body v) ∷ []) i (elim (kind v) [
-  | an_integer z f e w ↦ (λ j. subst (λ bs. get_or bs j 0 < 256) (sym w) (number_bytes z j))
+  | an_integer z f e w ↦ (λ j. subst (λ bs. get_or bs j 0 < 256) (sym w) (number_bytes z j f))
   | a_text e w ↦ (λ j. subst (λ bs. get_or bs j 0 < 256) (sym w) (text_bytes v j h b))
 ])
     (λ j. one (length (body v)) j (omega (arith, (body_few v h).1)))

@@ -1,6 +1,5 @@
 mod Bytes
 mod Forms
 pub mod Laws
-mod Writes
-mod Digits
 mod Decoding
+mod Widths

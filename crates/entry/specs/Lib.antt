@@ -1,3 +1,4 @@
 pub mod Entry
 pub mod Reading
 pub mod Laws
+pub mod Widths

@@ -2,17 +2,20 @@
 // that hold it, any other text as it is; the length of the encoding and data stands last.
 #![tactic(auto)]
 
-ghost use Rattle.std.specs.Prelude.{◌≡◌, ◌+◌, ◌*◌, ◌%◌, ◌^◌, ◌<◌, ◌≤◌, ◌∷◌, length, take, drop, IfSome};
+ghost use Rattle.std.specs.Prelude.{◌≡◌, ◌≢◌, ◌↔◌, ◌+◌, ◌*◌, ◌%◌, ◌^◌, ◌<◌, ◌≤◌, [], ◌∷◌, ◌++◌, length, take, drop, None, IfSome, IsSome, IsTrue, IfNone, List, ℕ};
+ghost use Rattle.std.specs.Option.{option_map, SomeIff};
 ghost use Rattle.std.specs.Int.Signed.{mag};
 ghost use Rattle.std.specs.Int.{w64, cast_unsigned};
 ghost use Rattle.std.specs.Fmt.{signed_decimal};
 ghost use Rattle.decimal.specs.Integer.{integer, longest_text};
 ghost use Rattle.store.specs.Limits.{longest_value};
 ghost use Rattle.store.specs.Answers.{over};
-ghost use Rattle.entry.specs.Entry.{longest_entry, low, number, text, body, entry, told, span_in, Encoded, Decoded, ReadsBack};
-ghost use Rattle.entry.specs.Reading.{unlow, back, tiny_in, thirteen_in, wide_in, number_in, text_in, other, value_in, size_in, Taken};
+ghost use Rattle.entry.specs.Entry.{longest_entry, low, tiny, number, text, body, entry, told, span_in, Encoded, Decoded, ReadsBack};
+ghost use Rattle.entry.specs.Reading.{unlow, back, tiny_in, thirteen_in, number_in, text_in, other, value_in, size_in, Taken};
+ghost use Rattle.entry.specs.Widths.{code_of, size_of, sign_of, takes};
 ghost use Rattle.entry.specs.Laws.{EntryLaws, Worked};
 
+use std::marker::Model;
 use store::LONGEST_VALUE;
 
 // The most bytes that an entry has.
@@ -27,7 +30,33 @@ fn worked_cases_hold()
     ensures { Worked }
 {}
 
-// ---- writing
+// A value: bytes that are few enough.
+#[derive(Drop)]
+struct Value<'a> {
+    bytes: &'a [u8],
+}
+
+impl<'a> Model for Value<'a> {
+    ghost Value = { List ℕ };
+
+    ghost view = { λ v. v.bytes.now };
+
+    ghost invariant = { λ v. length v.bytes.now ≤ longest_value };
+}
+
+impl<'a> Value<'a> {
+    fn new(bytes: &'a [u8]) -> Option<Value<'a>>
+        ensures some { IfSome result (λ v. v ≡ bytes.now) }
+        ensures few { IsSome result ↔ (length bytes.now ≤ longest_value) }
+    {
+        if bytes.len() > LONGEST_VALUE {
+            return None;
+        }
+        Some(Value { bytes })
+    }
+}
+
+// ---- the widths of integers
 
 // How far an integer is from 0 or -1.
 fn magnitude(z: i64) -> u64
@@ -40,25 +69,88 @@ fn magnitude(z: i64) -> u64
     }
 }
 
-// Writes an encoding and the n low bytes of an integer.
-fn write_wide(code: u8, n: usize, z: i64, out: &mut [u8; LONGEST_ENTRY]) -> usize
-    requires { n ≤ 8 }
-    ensures size { result ≡ n + 1 }
-    ensures bytes { out.new ≡ over out.old (code ∷ low n (cast_unsigned w64 z)) }
-{
-    let bytes = z.to_le_bytes();
-    out[0] = code;
-    out[1..n + 1].copy_from_slice(&bytes[0..n]);
-    n + 1
+// How many bits of two's complement an integer past 13 bits takes; the number is its encoding.
+#[derive(Clone, Copy, PartialEq)]
+enum Width {
+    Bits16 = 0xF1,
+    Bits24 = 0xF2,
+    Bits32 = 0xF3,
+    Bits64 = 0xF4,
 }
 
-// Writes an integer that takes all 64 bits.
-fn write_widest(z: i64, out: &mut [u8; LONGEST_ENTRY]) -> usize
-    requires { 2 ^ 31 ≤ mag z }
+impl Width {
+    const ALL: [Width; 4] = [Width::Bits16, Width::Bits24, Width::Bits32, Width::Bits64];
+
+    // How many bytes stand behind the encoding.
+    fn size(self) -> usize
+        ensures { result ≡ size_of self }
+    {
+        match self {
+            Width::Bits16 => 2,
+            Width::Bits24 => 3,
+            Width::Bits32 => 4,
+            Width::Bits64 => 8,
+        }
+    }
+
+    // Its sign bit.
+    fn sign(self) -> u64
+        ensures { result ≡ sign_of self }
+    {
+        1 << (8 * self.size() - 1)
+    }
+
+    // The width that an integer takes, if 13 bits do not hold it.
+    fn of(z: i64) -> Option<Width>
+        ensures some { IfSome result (λ w. IsTrue (takes w z)) }
+        ensures none { IfNone result (mag z < 2 ^ 12) }
+    {
+        match magnitude(z) {
+            0..0x1000 => None,
+            0x1000..0x8000 => Some(Width::Bits16),
+            0x8000..0x80_0000 => Some(Width::Bits24),
+            0x80_0000..0x8000_0000 => Some(Width::Bits32),
+            _ => Some(Width::Bits64),
+        }
+    }
+
+    // The width with an encoding.
+    fn coded(code: u8) -> Option<Width>
+        ensures some { IfSome result (λ w. code_of w ≡ code) }
+        ensures none { result ≡ None → (w : Width) → code_of w ≢ code }
+    {
+        Width::ALL.into_iter().find(|width| *width as u8 == code)
+    }
+}
+
+// ---- writing
+
+// Writes bytes, and others behind them, to the beginning of `out`, and tells how many.
+fn put(first: &[u8], then: &[u8], out: &mut [u8]) -> usize
+    requires { length first.now + length then.now ≤ length out.old }
+    ensures size { result ≡ length (first.now ++ then.now) }
+    ensures bytes { out.new ≡ over out.old (first.now ++ then.now) }
+{
+    let size = first.len() + then.len();
+    out[..first.len()].copy_from_slice(first);
+    out[first.len()..size].copy_from_slice(then);
+    size
+}
+
+// Writes an integer that takes a width.
+fn write_wide(width: Width, z: i64, out: &mut [u8; LONGEST_ENTRY]) -> usize
+    requires { IsTrue (takes width z) }
     ensures size { result ≡ length (number z) }
     ensures bytes { out.new ≡ over out.old (number z) }
 {
-    write_wide(0xF4, 8, z, out)
+    put(&[width as u8], &z.to_le_bytes()[..width.size()], out)
+}
+
+// Whether an integer is its own encoding.
+fn is_tiny(z: i64) -> bool
+    ensures { result ≡ tiny z }
+{
+    (0..128).contains(&z)
 }
 
 // Writes the encoding and data of an integer, in the fewest bytes that hold it.
@@ -66,63 +158,46 @@ fn write_number(z: i64, out: &mut [u8; LONGEST_ENTRY]) -> usize
     ensures size { result ≡ length (number z) }
     ensures bytes { out.new ≡ over out.old (number z) }
 {
-    let m = magnitude(z);
-    if z >= 0 && m < 128 {
-        out[0] = m as u8;
-        return 1;
+    if is_tiny(z) {
+        return put(&[z as u8], &[], out);
     }
-    if m < 4096 {
-        let bits = z.cast_unsigned();
-        out[0] = 0xC0 + (bits / 256 % 32) as u8;
-        out[1] = (bits % 256) as u8;
-        return 2;
+    match Width::of(z) {
+        Some(width) => write_wide(width, z, out),
+        None => {
+            let bits = z.cast_unsigned();
+            let first = 0xC0 + (bits / 256 % 32) as u8;
+            let second = (bits % 256) as u8;
+            put(&[first, second], &[], out)
+        }
     }
-    if m < 1 << 15 {
-        return write_wide(0xF1, 2, z, out);
-    }
-    if m < 1 << 23 {
-        return write_wide(0xF2, 3, z, out);
-    }
-    if m < 1 << 31 {
-        return write_wide(0xF3, 4, z, out);
-    }
-    write_widest(z, out)
 }
 
 // Writes the encoding of a text, and the text.
-fn write_text(value: &[u8], out: &mut [u8; LONGEST_ENTRY]) -> usize
-    requires { length value.now ≤ longest_value }
+fn write_text(value: &Value, out: &mut [u8; LONGEST_ENTRY]) -> usize
     ensures size { result ≡ length (text value.now) }
     ensures bytes { out.new ≡ over out.old (text value.now) }
 {
-    let n = value.len();
+    let n = value.bytes.len();
     if n <= 63 {
-        out[0] = 0x80 + n as u8;
-        out[1..n + 1].copy_from_slice(value);
-        return n + 1;
+        return put(&[0x80 + n as u8], value.bytes, out);
     }
-    out[0] = 0xE0 + (n / 256) as u8;
-    out[1] = (n % 256) as u8;
-    out[2..n + 2].copy_from_slice(value);
-    n + 2
+    put(&[0xE0 + (n / 256) as u8, (n % 256) as u8], value.bytes, out)
 }
 
 // Writes the encoding and data of a value to the beginning of `out`, and tells their length.
-fn write_body(value: &[u8], out: &mut [u8; LONGEST_ENTRY]) -> usize
-    requires { length value.now ≤ longest_value }
+fn write_body(value: &Value, out: &mut [u8; LONGEST_ENTRY]) -> usize
     ensures size { result ≡ length (body value.now) }
     ensures few { result < longest_entry }
     ensures bytes { out.new ≡ over out.old (body value.now) }
 {
-    match decimal::read_integer(value) {
+    match decimal::read(value.bytes) {
         Some(z) => write_number(z, out),
         None => write_text(value, out),
     }
 }
 
 // The same, and their length behind them.
-fn write_entry(value: &[u8], out: &mut [u8; LONGEST_ENTRY]) -> usize
-    requires { length value.now ≤ longest_value }
+fn write_entry(value: &Value, out: &mut [u8; LONGEST_ENTRY]) -> usize
     ensures size { result ≡ length (entry value.now) }
     ensures few { result ≤ longest_entry }
     ensures bytes { out.new ≡ over out.old (entry value.now) }
@@ -136,38 +211,22 @@ fn write_entry(value: &[u8], out: &mut [u8; LONGEST_ENTRY]) -> usize
 pub fn encode(value: &[u8], out: &mut [u8; LONGEST_ENTRY]) -> Option<usize>
     ensures { Encoded value.now out.old out.new result }
 {
-    if value.len() > LONGEST_VALUE {
-        return None;
-    }
-    Some(write_entry(value, out))
+    let value = Value::new(value)?;
+    Some(write_entry(&value, out))
 }
 
 // ---- spans
 
 // How many bytes an encoding and its data are, told by the first two bytes.
-fn told_by(bytes: &[u8]) -> usize
-    requires { 2 ≤ length bytes.now }
-    ensures { result ≡ told bytes.now }
+fn told_by(first: u8, second: u8) -> Option<usize>
+    ensures { SomeIff result (0 < told (first ∷ second ∷ [])) (told (first ∷ second ∷ [])) }
 {
-    let b = bytes[0];
-    if b < 0x80 {
-        return 1;
-    }
-    if b < 0xC0 {
-        return b as usize - 0x80 + 1;
-    }
-    if b < 0xE0 {
-        return 2;
-    }
-    if b < 0xF0 {
-        return (b as usize - 0xE0) * 256 + bytes[1] as usize + 2;
-    }
-    match b {
-        0xF1 => 3,
-        0xF2 => 4,
-        0xF3 => 5,
-        0xF4 => 9,
-        _ => 0,
+    match first {
+        0x00..=0x7F => Some(1),
+        0x80..=0xBF => Some(first as usize - 0x80 + 1),
+        0xC0..=0xDF => Some(2),
+        0xE0..=0xEF => Some((first as usize - 0xE0) * 256 + second as usize + 2),
+        _ => Some(Width::coded(first)?.size() + 1),
     }
 }
 
@@ -177,11 +236,11 @@ pub fn span(bytes: &[u8]) -> Option<usize>
     ensures value { result ≡ span_in bytes.now }
     ensures within { IfSome result (λ n. (2 ≤ n) × (n ≤ length bytes.now)) }
 {
-    if bytes.len() < 2 {
+    let [first, second, ..] = bytes else {
         return None;
-    }
-    let n = told_by(bytes);
-    if n == 0 || n >= bytes.len() {
+    };
+    let n = told_by(*first, *second)?;
+    if n >= bytes.len() {
         return None;
     }
     Some(n + 1)
@@ -189,33 +248,14 @@ pub fn span(bytes: &[u8]) -> Option<usize>
 
 // ---- reading
 
-// The first n bytes, and the bytes behind them.
-fn front(bytes: &[u8], n: usize) -> &[u8]
-    requires { n ≤ length bytes.now }
-    ensures { result.now ≡ take n bytes.now }
-{
-    &bytes[0..n]
-}
-
-fn behind(bytes: &[u8], n: usize) -> &[u8]
-    requires { n ≤ length bytes.now }
-    ensures bytes { result.now ≡ drop n bytes.now }
-    ensures size { length result.now + n ≡ length bytes.now }
-{
-    &bytes[n..]
-}
-
 // The number of bytes, the lowest first.
 fn from_low(digits: &[u8]) -> u64
     requires { length digits.now ≤ 8 }
-    ensures value { result ≡ unlow digits.now }
-    ensures few { result < 256 ^ length digits.now }
+    ensures { result ≡ unlow digits.now }
 {
-    let mut bits: u64 = 0;
-    for i in (0..digits.len()).rev() {
-        bits = bits * 256 + digits[i] as u64;
-    }
-    bits
+    let mut bytes = [0; 8];
+    put(digits, &[], &mut bytes);
+    u64::from_le_bytes(bytes)
 }
 
 // The integer of a two's complement whose sign bit is `sign`.
@@ -230,91 +270,57 @@ fn from_bits(sign: u64, bits: u64) -> i64
     -1 - (sign - 1 - (bits - sign)) as i64
 }
 
-// The integer of the bytes after the first.
-fn from_data(coded: &[u8], sign: u64) -> i64
-    requires some { 0 < length coded.now }
-    requires few { length coded.now ≤ 9 }
-    requires spans { 2 * sign * 256 ≡ 256 ^ length coded.now }
-    ensures { result ≡ back sign (unlow (drop 1 coded.now)) }
+// The integer of a width that data hold, unless a shorter form has it.
+fn read_wide(width: Width, data: &[u8]) -> Option<i64>
+    ensures { result ≡ number_in (code_of width ∷ «data».now) }
 {
-    let bits = from_low(behind(coded, 1));
-    from_bits(sign, bits)
-}
-
-// An integer behind the encoding `code`, unless a shorter one has it.
-fn read_wide(coded: &[u8], code: u8, sign: u64, least: u64) -> Option<i64>
-    requires some { 0 < length coded.now }
-    requires few { length coded.now ≤ 9 }
-    requires spans { 2 * sign * 256 ≡ 256 ^ length coded.now }
-    ensures { result ≡ wide_in code sign least coded.now }
-{
-    if coded[0] != code {
+    if data.len() != width.size() {
         return None;
     }
-    let z = from_data(coded, sign);
-    if magnitude(z) < least {
-        return None;
-    }
-    Some(z)
+    let z = from_bits(width.sign(), from_low(data));
+    (Width::of(z) == Some(width)).then_some(z)
 }
 
 // An integer of one byte, and one of 13 bits, unless it fits one byte.
 fn read_tiny(b: u8) -> Option<i64>
     ensures { result ≡ tiny_in b }
 {
-    if b >= 0x80 {
-        return None;
-    }
-    Some(b as i64)
+    (b < 0x80).then_some(b as i64)
 }
 
 fn read_thirteen(b: u8, c: u8) -> Option<i64>
     ensures { result ≡ thirteen_in b c }
 {
-    if b < 0xC0 || b >= 0xE0 {
+    if !(0xC0..0xE0).contains(&b) {
         return None;
     }
     let z = from_bits(4096, (b as u64 - 0xC0) * 256 + c as u64);
-    if z >= 0 && z < 128 {
-        return None;
-    }
-    Some(z)
+    (!is_tiny(z)).then_some(z)
 }
 
 // The integer whose encoding and data these bytes are.
 fn read_number(coded: &[u8]) -> Option<i64>
     ensures { result ≡ number_in coded.now }
 {
-    match coded.len() {
-        1 => read_tiny(coded[0]),
-        2 => read_thirteen(coded[0], coded[1]),
-        3 => read_wide(coded, 0xF1, 1 << 15, 4096),
-        4 => read_wide(coded, 0xF2, 1 << 23, 1 << 15),
-        5 => read_wide(coded, 0xF3, 1 << 31, 1 << 23),
-        9 => read_wide(coded, 0xF4, 1 << 63, 1 << 31),
-        _ => None,
+    match coded {
+        [] => None,
+        [b] => read_tiny(*b),
+        [b, c] => read_thirteen(*b, *c),
+        [code, data @ ..] => read_wide(Width::coded(*code)?, data),
     }
 }
 
-// Where the text begins whose encoding and data these bytes are.
-fn read_text(coded: &[u8]) -> Option<usize>
-    ensures value { result ≡ text_in coded.now }
-    ensures within { IfSome result (λ n. (n ≤ length coded.now) × (length coded.now ≤ n + longest_value)) }
+// The text whose encoding and data these bytes are.
+fn read_text(coded: &[u8]) -> Option<Value>
+    ensures { option_map (λ v. v) result ≡ option_map (λ n. drop n coded.now) (text_in coded.now) }
 {
-    if coded.len() < 1 {
-        return None;
+    match coded {
+        [first @ 0x80..=0xBF, text @ ..] if text.len() == *first as usize - 0x80 => Value::new(
+            text,
+        ),
+        [0xE0, size, text @ ..] if *size > 63 && text.len() == *size as usize => Value::new(text),
+        _ => None,
     }
-    let b = coded[0];
-    if b >= 0x80 && b < 0xC0 && coded.len() == b as usize - 0x80 + 1 {
-        return Some(1);
-    }
-    if b == 0xE0 && coded.len() > 1 {
-        let n = coded[1] as usize;
-        if n > 63 && n <= LONGEST_VALUE && coded.len() == n + 2 {
-            return Some(2);
-        }
-    }
-    None
 }
 
 // Writes the text of an integer to the beginning of `out`, and tells its length.
@@ -324,37 +330,28 @@ fn put_integer(z: i64, out: &mut [u8; LONGEST_VALUE]) -> usize
     ensures bytes { out.new ≡ over out.old (signed_decimal z) }
 {
     let mut digits = [0; decimal::LONGEST_TEXT];
-    let size = decimal::write_integer(z, &mut digits);
-    out[0..size].copy_from_slice(&digits[0..size]);
-    size
+    let size = decimal::write(z, &mut digits);
+    put(&digits[..size], &[], out)
 }
 
 // Copies a text to the beginning of `out`, and tells its length, unless it is an integer text.
-fn put_text(found: &[u8], out: &mut [u8; LONGEST_VALUE]) -> Option<usize>
-    requires { length found.now ≤ longest_value }
+fn put_text(found: &Value, out: &mut [u8; LONGEST_VALUE]) -> Option<usize>
     ensures { Taken (other found.now (integer found.now)) out.old out.new result }
 {
-    match decimal::read_integer(found) {
-        Some(_) => None,
-        None => {
-            let size = found.len();
-            out[0..size].copy_from_slice(found);
-            Some(size)
-        }
+    if decimal::read::<i64>(found.bytes).is_some() {
+        return None;
     }
+    Some(put(found.bytes, &[], out))
 }
 
 // Writes the value whose encoding and data these bytes are to the beginning of `out`, and tells its length.
 fn read_body(coded: &[u8], out: &mut [u8; LONGEST_VALUE]) -> Option<usize>
     ensures { Taken (value_in coded.now) out.old out.new result }
 {
-    match read_number(coded) {
-        Some(z) => Some(put_integer(z, out)),
-        None => match read_text(coded) {
-            Some(place) => put_text(behind(coded, place), out),
-            None => None,
-        },
+    if let Some(z) = read_number(coded) {
+        return Some(put_integer(z, out));
     }
+    put_text(&read_text(coded)?, out)
 }
 
 // How many bytes the encoding and data at the beginning are, where the length after them is right.
@@ -362,15 +359,11 @@ fn body_size(bytes: &[u8]) -> Option<usize>
     ensures value { result ≡ size_in bytes.now }
     ensures within { IfSome result (λ n. (1 ≤ n) × (n < length bytes.now)) }
 {
-    match span(bytes) {
-        Some(s) => {
-            if bytes[s - 1] as usize != s - 1 {
-                return None;
-            }
-            Some(s - 1)
-        }
-        None => None,
+    let size = span(bytes)? - 1;
+    if bytes[size] as usize != size {
+        return None;
     }
+    Some(size)
 }
 
 // Copies the value whose entry the bytes begin with to the beginning of `out`, and tells its length and that of the entry;
@@ -379,11 +372,7 @@ pub fn decode(bytes: &[u8], out: &mut [u8; LONGEST_VALUE]) -> Option<(usize, usi
     ensures exact { Decoded bytes.now out.old out.new result }
     ensures known { ReadsBack bytes.now out.old out.new result }
 {
-    match body_size(bytes) {
-        Some(n) => match read_body(front(bytes, n), out) {
-            Some(size) => Some((size, n + 1)),
-            None => None,
-        },
-        None => None,
-    }
+    let size = body_size(bytes)?;
+    let length = read_body(&bytes[..size], out)?;
+    Some((length, size + 1))
 }

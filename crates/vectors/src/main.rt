@@ -9,11 +9,10 @@ use store::LONGEST_VALUE;
 
 fn show_value(rt: &HostRuntime, value: &[u8]) -> io::Result<()> {
     print!(rt; "\"")?;
-    for b in value {
-        if *b < b' ' || *b > b'~' || *b == b'"' || *b == b'\\' {
-            print!(rt; "\\x{:02X}", *b)?;
-        } else {
-            print!(rt; "{}", *b as char)?;
+    for &b in value {
+        match b {
+            b' '..=b'~' if b != b'"' && b != b'\\' => print!(rt; "{}", b as char)?,
+            _ => print!(rt; "\\x{b:02X}")?,
         }
     }
     print!(rt; "\"")
@@ -24,8 +23,8 @@ fn show(rt: &HostRuntime, value: &[u8]) -> io::Result<()> {
     let mut out = [0; LONGEST_ENTRY];
     match encode(value, &mut out) {
         Some(n) => {
-            for b in &out[0..n] {
-                print!(rt; " {:02X}", *b)?;
+            for b in &out[..n] {
+                print!(rt; " {b:02X}")?;
             }
             println!(rt; "")
         }
@@ -71,7 +70,7 @@ fn show_others(rt: &HostRuntime) -> io::Result<()> {
 fn show_text(rt: &HostRuntime, b: u8, n: usize) -> io::Result<()> {
     let text = [b; LONGEST_VALUE + 1];
     let size = n.min(text.len());
-    show(rt, &text[0..size])
+    show(rt, &text[..size])
 }
 
 fn show_texts(rt: &HostRuntime) -> io::Result<()> {

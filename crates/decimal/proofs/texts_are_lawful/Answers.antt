@@ -1,4 +1,4 @@
-use Rattle.decimal.proofs.Laws.{reads, reads_natural, writes, writes_natural}
+use Rattle.decimal.specs.NumberLaws.{reads, reads_natural, writes, writes_natural}
 use Rattle.decimal.proofs.texts_are_lawful.Goals as goal
 
 pub returns : goal.returns

@@ -1,13 +1,16 @@
--- A text is an integer's just where std writes it so.
-use Rattle.std.proofs.Common.{◌≡◌, ℕ, zero, suc, ◌^◌, ◌<◌, ◌≤◌, Bool, true, false, cond, ◌&&◌, eqb, ltb, leb, List, [], ◌∷◌, length, get_or, ℤ, pos, negsuc, neg_ℤ, Some, None, decimal, Option, sym, refl, ap, ◌∙◌, subst, arith, w64, SFits}
-use Rattle.std.specs.Str.Parse.{digits_value}
+-- A text is a number's just where std writes it so: the laws of `Decimal` at u64 and i64. Nothing here needs to be believed.
+use Rattle.std.proofs.Common.{◌≡◌, ℕ, zero, suc, ◌^◌, ◌<◌, ◌≤◌, Bool, true, false, cond, ◌&&◌, eqb, ltb, leb, List, [], ◌∷◌, length, get_or, ℤ, pos, negsuc, neg_ℤ, Some, None, decimal, Option, Ok, Result, IsUtf8, sym, refl, ap, ◌∙◌, subst, arith, w64, SFits}
+use Rattle.std.specs.Str.Parse.{digits_value, ParsesUnsigned, ParsesSigned}
+use Rattle.std.specs.Int.Signed.{mag}
 use Rattle.std.specs.Fmt.{signed_decimal}
 use Rattle.std.specs.Str.{all_ascii_digits}
 use Rattle.std.proofs.lemmas.Str.Parse.{IsNumeralModel, numerals_by_value, tells_all_ascii_digits}
-use Rattle.std.proofs.lemmas.Fmt.{digits_decimal, digits_value-decimal, decimal_nonempty, first_decimal, decimal-digits_value, decimal_digit}
+use Rattle.std.proofs.lemmas.Fmt.{digits_decimal, digits_value-decimal, decimal_nonempty, first_decimal, decimal-digits_value, decimal_digit, parse-decimal, parse-signed_decimal, IsAscii-decimal, IsAscii-signed}
+use Rattle.std.proofs.lemmas.Str.{IsUtf8-from_ascii}
+use Rattle.std.proofs.lemmas.Option.{cond_some}
 use Rattle.std.proofs.lemmas.Bool.{and_parts, eqb-true, ltb-true, lt-ltb, ne_eqb, cond-true, cond-false}
 use Rattle.std.proofs.lemmas.Bool.Decides.{nat_tests}
-use Rattle.decimal.specs.Integer.{plain, number, natural, above, below, integer}
+use Rattle.decimal.specs.Integer.{longest_text, plain, number, natural, above, below, integer}
 
 pub own : IsNumeralModel (λ ds. all_ascii_digits ds ≡ true) (digits_value 10)
 own = numerals_by_value _ tells_all_ascii_digits
@@ -25,19 +28,15 @@ writes_natural n h =
     let e : natural (decimal n) ≡ Some (digits_value 10 (decimal n)) = grind (arith, nat_tests) in
     e ∙ ap Some v
 
--- a chosen one
-taken : {X : Type 0} (b : Bool) (x z : X) → cond b (Some x) None ≡ Some z → (b ≡ true) × (x ≡ z)
-taken true x z e = (refl, cc)
-taken false x z e = let bad : ◌≡◌ {A = ℕ} 0 1 = cc in absurd (omega arith)
-
-kept : {X : Type 0} (b : Bool) (o : Option X) (z : X) → cond b o None ≡ Some z → (b ≡ true) × (o ≡ Some z)
+-- a chosen one, where it is some
+pub kept : {X : Type 0} (b : Bool) (o : Option X) (z : X) → cond b o None ≡ Some z → (b ≡ true) × (o ≡ Some z)
 kept true o z e = (refl, e)
 kept false o z e = let bad : ◌≡◌ {A = ℕ} 0 1 = cc in absurd (omega arith)
 
 pub reads_natural : (t : List ℕ) (n : ℕ) → natural t ≡ Some n → (t ≡ decimal n) × (n < 2 ^ 64)
 reads_natural t n e =
     let k = kept (plain t) (number t) n e in
-    let q = taken (all_ascii_digits t && ltb (digits_value 10 t) (2 ^ 64)) (digits_value 10 t) n k.1 in
+    let q = cond_some (all_ascii_digits t && ltb (digits_value 10 t) (2 ^ 64)) (digits_value 10 t) n k.1 in
     let p = k.0 in
     let b = q.0 in
     let l : digits_value 10 t < 2 ^ 64 = grind (arith, nat_tests) in
@@ -62,8 +61,12 @@ writes (negsuc n) f = ap below (writes_natural (suc n) (omega arith)) ∙ cond-t
 reads_plus : (o : Option ℕ) (t : List ℕ) (z : ℤ) → natural t ≡ o → above o ≡ Some z → (t ≡ signed_decimal z) × SFits w64 z
 reads_plus None t z n e = let bad : ◌≡◌ {A = ℕ} 0 1 = cc in absurd (omega arith)
 reads_plus (Some m) t z n e =
-    let q = taken (ltb m (2 ^ 63)) (pos m) z e in
+    let q = cond_some (ltb m (2 ^ 63)) (pos m) z e in
     ((reads_natural t m n).0 ∙ ap signed_decimal q.1, subst (SFits w64) q.1 (record { sfits = ltb-true _ _ q.0 }))
+
+small : (z : ℤ) → SFits w64 z → mag z < 2 ^ 63
+small (pos n) f = omega arith
+small (negsuc n) f = omega arith
 
 below_zero : (n : ℕ) → 0 < n → n ≤ 2 ^ 63 → (signed_decimal (neg_ℤ (pos n)) ≡ 45 ∷ decimal n) × SFits w64 (neg_ℤ (pos n))
 below_zero zero p h = absurd (omega arith)
@@ -72,7 +75,7 @@ below_zero (suc n) p h = (refl, record { sfits = omega arith })
 reads_minus : (o : Option ℕ) (t : List ℕ) (z : ℤ) → natural t ≡ o → below o ≡ Some z → (45 ∷ t ≡ signed_decimal z) × SFits w64 z
 reads_minus None t z n e = let bad : ◌≡◌ {A = ℕ} 0 1 = cc in absurd (omega arith)
 reads_minus (Some m) t z n e =
-    let q = taken (ltb 0 m && leb m (2 ^ 63)) (neg_ℤ (pos m)) z e in
+    let q = cond_some (ltb 0 m && leb m (2 ^ 63)) (neg_ℤ (pos m)) z e in
     let w = q.0 in
     let v : (0 < m) × (m ≤ 2 ^ 63) = grind (arith, nat_tests) in
     let b = below_zero m v.0 v.1 in
@@ -85,3 +88,28 @@ reads_case false c cs z h e = reads_plus (natural (c ∷ cs)) (c ∷ cs) z refl 
 pub reads : (t : List ℕ) (z : ℤ) → integer t ≡ Some z → (t ≡ signed_decimal z) × SFits w64 z
 reads [] z e = let bad : ◌≡◌ {A = ℕ} 0 1 = cc in absurd (omega arith)
 reads (c ∷ cs) z e = reads_case (eqb c 45) c cs z (eqb-true c 45) e
+
+-- ---- what std parses of a text
+
+pub parses : {E : Type 0} (z : ℤ) (r : Result ℤ E) → SFits w64 z → ParsesSigned w64 10 (signed_decimal z) r → r ≡ Ok z
+parses z r f p = parse-signed_decimal w64 z (signed_decimal z) r f (small z f) refl p
+
+pub parses_natural : {E : Type 0} (n : ℕ) (r : Result ℕ E) → n < 2 ^ 64 → ParsesUnsigned 64 10 (decimal n) r → r ≡ Ok n
+parses_natural n r f p = parse-decimal 64 n (decimal n) r f f refl p
+
+-- what is parsed is in range, in the form that the clause of `parse` computes to
+pub parsed : (P : Type 0) (y z : ℤ) → (P × SFits w64 y) × (z ≡ y) → SFits w64 z
+parsed P y z p = subst (SFits w64) (sym p.1) p.0.1
+
+pub parsed_natural : (P : Type 0) (m n : ℕ) → (P × (m < 2 ^ 64)) × (n ≡ m) → n < 2 ^ 64
+parsed_natural P m n p = omega (arith, p.0.1, p.1)
+
+pub is_text : (z : ℤ) → SFits w64 z → IsUtf8 (signed_decimal z)
+is_text z f = IsUtf8-from_ascii (signed_decimal z) (IsAscii-signed z (small z f))
+
+pub is_natural_text : (n : ℕ) → n < 2 ^ 64 → IsUtf8 (decimal n)
+is_natural_text n f = IsUtf8-from_ascii (decimal n) (IsAscii-decimal n f)
+
+-- the most bytes of a text, by std
+pub is_short : 20 ≤ longest_text
+is_short = omega arith
