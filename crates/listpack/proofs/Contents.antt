@@ -4,6 +4,8 @@ use Rattle.std.proofs.lemmas.List.{take-append-drop, drop_at}
 use Rattle.store.specs.Lists.{Value}
 use Rattle.entry.specs.Entry.{entry, span_in}
 use Rattle.listpack.specs.Layout.{most_bytes, entries, total, header, pack, step, read, values, Shorts, Lawful}
+use Rattle.listpack.specs.declared.pack.Listpack.{Listpack}
+use Rattle.listpack.specs.Packs.{values_in}
 use Rattle.listpack.proofs.Codec.{value_first, span_first}
 use Rattle.listpack.proofs.Sizes.{entries_more, count_few}
 
@@ -62,6 +64,16 @@ count_said bytes vs h =
     let n = length vs in
     let c : n % 256 + 256 * (n / 256 % 256) ≡ n = omega (arith, count_few vs h.short h.fits) in
     ap (λ bs. get_or bs 4 0 + 256 * get_or bs 5 0) (spread bytes vs h.begins) ∙ c
+
+-- the same of a listpack
+pub held : (p : Listpack) → Holds p.bytes (values_in p)
+held p = lawful_holds p.bytes p.lawful
+
+pub size_held : (p : Listpack) → get_or p.bytes 0 0 + 256 * get_or p.bytes 1 0 ≡ total (values_in p)
+size_held p = size_said p.bytes (values_in p) (held p)
+
+pub count_held : (p : Listpack) → get_or p.bytes 4 0 + 256 * get_or p.bytes 5 0 ≡ length (values_in p)
+count_held p = count_said p.bytes (values_in p) (held p)
 
 pub none_short : Shorts []
 none_short k = omega arith

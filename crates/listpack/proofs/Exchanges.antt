@@ -1,7 +1,6 @@
 -- Entries in the place of others.
-use Rattle.std.proofs.Common.{◌≡◌, ℕ, zero, suc, ◌+◌, ◌-◌, ◌*◌, ◌≤◌, Bool, true, cond, ◌&&◌, leb, List, [], ◌∷◌, ◌++◌, length, take, drop, sym, refl, ap, ◌∙◌, subst, append_assoc, arith}
+use Rattle.std.proofs.Common.{◌≡◌, ℕ, zero, suc, ◌+◌, ◌-◌, ◌*◌, ◌≤◌, List, [], ◌∷◌, ◌++◌, length, take, drop, sym, refl, ap, ◌∙◌, subst, append_assoc, arith}
 use Rattle.std.proofs.lemmas.List.{append-nil, length-append, length-drop, length-take-le, take-append-drop, take_at}
-use Rattle.std.proofs.lemmas.Bool.{le-leb}
 use Rattle.store.specs.Limits.{longest_value}
 use Rattle.store.specs.Lists.{Value}
 use Rattle.entry.specs.Entry.{entry}
@@ -51,25 +50,8 @@ module _ (ns : List Value) (n : ℕ) (bytes : List ℕ) (short : Shorts ns) (l :
   run_of = record { whole = ap entries read_run ∙ sym e; short = subst Shorts (sym read_run) short }
 
 -- the entry of a value at the beginning of what it was written to
-pub cut_entry : (v : Value) (n : ℕ) (out rest : List ℕ) → n ≡ length (entry v) → out ≡ entry v ++ rest → take (n - 0) out ≡ entries (v ∷ [])
-cut_entry v n out rest e o = let k : length (entry v) ≡ n - 0 = omega arith in ap (take (n - 0)) o ∙ take_at (entry v) rest (n - 0) k ∙ sym (entries_one v)
-
--- ---- answers in the words of equal numbers and lists
-
-pub told_short : (v : Value) (r b : Bool) → length v ≤ longest_value → r ≡ b → r ≡ (leb (length v) longest_value && b)
-told_short v r b h e = e ∙ ap (λ s. s && b) (sym (le-leb (length v) longest_value h))
-
-pub told_as : (s r : Bool) (m n : ℕ) → r ≡ (s && leb m most_bytes) → m ≡ n → r ≡ (s && leb n most_bytes)
-told_as s r m n t e = t ∙ ap (λ k. s && leb k most_bytes) e
-
-pub left_as : (r : Bool) (xs us ws vs : List Value) → xs ≡ cond r us vs → us ≡ ws → xs ≡ cond r ws vs
-left_as r xs us ws vs l e = l ∙ ap (λ ys. cond r ys vs) e
-
--- what fits has been done
-pub done_as : (r : Bool) (xs us ws vs : List Value) → r ≡ leb (total us) most_bytes → xs ≡ cond r us vs → us ≡ ws → total ws ≤ most_bytes → xs ≡ ws
-done_as r xs us ws vs t l e f =
-    let b : r ≡ true = t ∙ ap (λ ys. leb (total ys) most_bytes) e ∙ le-leb (total ws) most_bytes f in
-    l ∙ ap (λ a. cond a us vs) b ∙ e
+pub cut_entry : (v : Value) (n : ℕ) (out rest : List ℕ) → n ≡ length (entry v) → out ≡ entry v ++ rest → take n out ≡ entries (v ∷ [])
+cut_entry v n out rest e o = ap (take n) o ∙ take_at (entry v) rest n (sym e) ∙ sym (entries_one v)
 
 -- ---- the exchange
 
@@ -116,15 +98,14 @@ module _ (vs : List Value) (i j : ℕ) (order : i ≤ j) where
       pub grown_is : end - (to - from) + length new ≡ total (exchanged vs i j ns)
       grown_is = omega (arith, total_exchanged, ap length n)
 
-      pub written_holds : (bytes bytes' out : List ℕ) (grown count : ℕ) → Holds bytes vs → Shorts ns → total (exchanged vs i j ns) ≤ most_bytes
-          → grown ≡ total (exchanged vs i j ns) → count ≡ length (exchanged vs i j ns)
-          → take (from + length new + (end - to)) bytes' ≡ spliced (take end bytes) from to new → out ≡ header grown count ++ drop 6 bytes'
+      pub written_holds : (bytes bytes' out : List ℕ) (count : ℕ) → Holds bytes vs → Shorts ns → end - (to - from) + length new ≤ most_bytes → count ≡ length (exchanged vs i j ns)
+          → take (from + length new + (end - to)) bytes' ≡ spliced (take end bytes) from to new → out ≡ header (end - (to - from) + length new) count ++ drop 6 bytes'
           → Holds out (exchanged vs i j ns)
-      written_holds bytes bytes' out grown count h s t g m e o =
+      written_holds bytes bytes' out count h s t m e o =
           let k : total (exchanged vs i j ns) ≡ from + length new + (end - to) = omega (arith, grown_is, place_order vs i j order, place_below vs j) in
-          exchanged_holds bytes bytes' out new h s t n
+          exchanged_holds bytes bytes' out new h s (omega (arith, grown_is)) n
           (ap (λ x. take x bytes') k ∙ e ∙ (λ x. spliced (take (c x) bytes) (a x) (b x) new))
-          (o ∙ (λ x. header (g x) (m x) ++ drop 6 bytes'))
+          (o ∙ (λ x. header (grown_is x) (m x) ++ drop 6 bytes'))
 
   pub total_out : total (exchanged vs i j []) ≤ total vs
   total_out = omega (arith, total_exchanged [], total_none)

@@ -4,4 +4,5 @@ mod Contents
 mod Spots
 mod Splices
 mod Exchanges
+mod Answers
 pub mod PackLaws

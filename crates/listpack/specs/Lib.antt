@@ -1,4 +1,5 @@
 pub mod Layout
 pub mod Places
 pub mod Packs
+pub mod Changes
 pub mod Laws

@@ -1,14 +1,11 @@
 -- The values of one node are changed: what that makes of the node, and of the list that it is in.
-use Rattle.std.proofs.Common.{◌≡◌, ℕ, zero, suc, ◌+◌, ◌-◌, ◌<◌, ◌≤◌, Bool, true, false, cond, ◌&&◌, ltb, leb, ◌≢◌, List, [], ◌∷◌, ◌++◌, map, length, get_or, take, drop, sym, refl, ap, ◌∙◌, subst, append_assoc, arith}
+use Rattle.std.proofs.Common.{◌≡◌, ℕ, ◌+◌, ◌<◌, ◌≤◌, Bool, true, false, cond, ◌↔◌, ◌≢◌, Ok, Err, Result, is_ok, IsOk, IsTrue, OnOk, OnErr, List, [], ◌∷◌, ◌++◌, map, length, take, drop, sym, refl, ap, ◌∙◌, subst, append_assoc, arith}
 use Rattle.std.specs.List.{insert}
 use Rattle.std.proofs.lemmas.List.{take_all, drop_all, map-append}
-use Rattle.std.proofs.lemmas.Bool.{le-leb, lt-ltb}
-use Rattle.store.specs.Limits.{longest_value}
 use Rattle.store.specs.Lists.{Value}
 use Rattle.listpack.specs.declared.pack.Listpack.{Listpack}
-use Rattle.listpack.specs.Packs.{values_in, takes, swaps, total, most_bytes}
-use Rattle.listpack.proofs.Sizes.{total_none}
-use Rattle.listpack.proofs.PackLaws.{held_fits}
+use Rattle.listpack.specs.declared.pack.PackError.{PackError}
+use Rattle.listpack.specs.Packs.{values_in, takes}
 use Rattle.quicklist.specs.declared.table.Node.{Node}
 use Rattle.nodes.specs.Nodes.{Nodes, put_in, unless_empty}
 use Rattle.links.specs.Links.{tally, last_or, listed, Sound}
@@ -16,64 +13,40 @@ use Rattle.links.proofs.Paths.{one_same, tally_append, last_push, map_frame}
 use Rattle.links.proofs.Tables.{once, within, apart}
 use Rattle.records.specs.Records.{key_at, first_at}
 use Rattle.quicklist.specs.declared.table.Tables.{Tables}
-use Rattle.quicklist.specs.Tables.{values_at, count_at, next_list, room, links, links_of, numbers, nodes_of, Refilled, Divided, Relisted}
+use Rattle.quicklist.specs.Tables.{values_at, count_at, next_list, room, links, links_of, numbers, nodes_of, Refilled, Relisted}
 use Rattle.quicklist.proofs.Splices.{holds}
 
 -- ---- what a node tells
 
--- a value that is short, at a place that is there, goes in exactly where the node takes it
-pub told_insert : (b : Bool) (j : ℕ) (us : List Value) (v : Value) → length v ≤ longest_value → j ≤ length us → b ≡ (leb (length v) longest_value && (leb j (length us) && takes us v)) → b ≡ takes us v
-told_insert b j us v s l e = e ∙ (λ k. le-leb (length v) longest_value s k && (le-leb j (length us) l k && takes us v))
+-- where there is an index and the value is short, a change is made exactly where there is room
+pub told_ok : {U P Q : Type 0} (r : Result U PackError) (b t : Bool) → b ≡ is_ok r → (IsOk r ↔ (P × Q × IsTrue t)) → P → Q → b ≡ t
+told_ok r true t e made p q = sym (made.0 (sym e)).2
+told_ok r false true e made p q = e ∙ made.1 (p, q, refl)
+told_ok r false false e made p q = refl
 
-pub told_replace : (b : Bool) (j : ℕ) (us : List Value) (v : Value) → length v ≤ longest_value → j < length us → b ≡ (leb (length v) longest_value && (ltb j (length us) && swaps us j v)) → b ≡ swaps us j v
-told_replace b j us v s l e = e ∙ (λ k. le-leb (length v) longest_value s k && (lt-ltb j (length us) l k && swaps us j v))
+pub short_ok : {U Q : Type 0} (r : Result U PackError) (b t : Bool) → b ≡ is_ok r → (IsOk r ↔ (Q × IsTrue t)) → Q → b ≡ t
+short_ok r true t e made q = sym (made.0 (sym e)).1
+short_ok r false true e made q = e ∙ made.1 (q, refl)
+short_ok r false false e made q = refl
 
-pub told_prepend : (b : Bool) (us : List Value) (v : Value) → length v ≤ longest_value → b ≡ (leb (length v) longest_value && takes us v) → b ≡ takes us v
-told_prepend b us v s e = e ∙ (λ k. le-leb (length v) longest_value s k && takes us v)
+-- what a change that was made, or refused, has left
+pub left_ok : {U P : Type 0} (r : Result U PackError) → true ≡ is_ok r → OnOk r P → P
+left_ok (Ok _) e ok = ok
+left_ok (Err _) e ok = cc
 
--- ---- one node after another change
+pub left_err : {U P : Type 0} (r : Result U PackError) → false ≡ is_ok r → OnErr r P → P
+left_err (Ok _) e err = cc
+left_err (Err _) e err = err
 
-pub refill_again : (xs ys zs : List Node) (n : ℕ) (us vs : List Value) → Refilled xs ys n us → Refilled ys zs n vs → Refilled xs zs n vs
-refill_again xs ys zs n us vs a b = record {
-  nexts = b.nexts ∙ a.nexts;
-  prevs = b.prevs ∙ a.prevs;
-  here = b.here;
-  else = λ m o ne. b.else m o ne ∙ a.else m o ne;
-}
+pub left_either : {U : Type 0} (r : Result U PackError) (xs us vs : List Value) → OnOk r (xs ≡ us) → OnErr r (xs ≡ vs) → xs ≡ cond (is_ok r) us vs
+left_either (Ok _) xs us vs ok err = ok
+left_either (Err _) xs us vs ok err = err
 
-pub refill_as : (xs ys : List Node) (n : ℕ) (us vs : List Value) → us ≡ vs → Refilled xs ys n us → Refilled xs ys n vs
-refill_as xs ys n us vs e a = subst (Refilled xs ys n) e a
+-- ---- one node after a change
 
 -- a value at the end of a list
 pub inserted_end : (vs : List Value) (v : Value) (j : ℕ) → j ≡ length vs → insert vs j v ≡ vs ++ v ∷ []
 inserted_end vs v j e = λ k. take_all j vs (omega arith) k ++ v ∷ drop_all j vs (omega arith) k
-
-module _ (xs ys zs : List Node) (n j : ℕ) (v : Value) (right : Listpack) (short : length v ≤ longest_value)
-    (halved : Refilled xs ys n (take j (values_at xs n))) (rest : values_in right ≡ drop j (values_at xs n)) where
-  abbrev front : List Value
-  front = take j (values_at xs n)
-
-  front_told : (b : Bool) → b ≡ (leb (length v) longest_value && (leb (length (values_at ys n)) (length (values_at ys n)) && takes (values_at ys n) v)) → b ≡ takes front v
-  front_told b e = told_insert b (length (values_at ys n)) (values_at ys n) v short (omega arith) e ∙ ap (λ us. takes us v) halved.here
-
-  pub divided_left : true ≡ (leb (length v) longest_value && (leb (length (values_at ys n)) (length (values_at ys n)) && takes (values_at ys n) v)) → Refilled ys zs n (insert (values_at ys n) (length (values_at ys n)) v) → Divided xs zs n j v right
-  divided_left e f =
-      let t : true ≡ takes front v = front_told true e in
-      record {
-        left = refill_as xs zs n _ _ (ap (λ us. insert us (length us) v) halved.here ∙ inserted_end front v (length front) refl ∙ (λ k. cond (t k) (front ++ v ∷ []) front)) (refill_again xs ys zs n front _ halved f);
-        cut = rest ∙ (λ k. cond (t k) (drop j (values_at xs n)) (v ∷ drop j (values_at xs n)));
-      }
-
-  pub divided_right : (b : Bool) (new : Listpack) → false ≡ (leb (length v) longest_value && (leb (length (values_at ys n)) (length (values_at ys n)) && takes (values_at ys n) v)) → Refilled ys zs n (values_at ys n)
-      → b ≡ (leb (length v) longest_value && takes (values_in right) v) → values_in new ≡ cond b (v ∷ values_in right) (values_in right)
-      → (takes front v ≡ false → takes (drop j (values_at xs n)) v ≡ true) → Divided xs zs n j v new
-  divided_right b new e f g h other =
-      let t : false ≡ takes front v = front_told false e in
-      let r : b ≡ true = told_prepend b (values_in right) v short g ∙ ap (λ us. takes us v) rest ∙ other (sym t) in
-      record {
-        left = refill_as xs zs n _ _ (halved.here ∙ (λ k. cond (t k) (front ++ v ∷ []) front)) (refill_again xs ys zs n front _ halved f);
-        cut = h ∙ (λ k. cond (r k) (v ∷ rest k) (rest k)) ∙ (λ k. cond (t k) (drop j (values_at xs n)) (v ∷ drop j (values_at xs n)));
-      }
 
 -- ---- the lists after a change to one node
 
@@ -162,13 +135,6 @@ put_divided : (us : List Value) (j : ℕ) (v : Value) → false ≡ takes us v
 put_divided us j v t = pair (takes (take j us) v) _ _ _ _
     ∙ (λ k. cond (t k) (insert us j v ∷ []) (cond (takes (take j us) v) ((take j us ++ v ∷ []) ∷ drop j us ∷ []) (take j us ∷ (v ∷ drop j us) ∷ [])))
 
-module _ (xs ys zs : List Node) (n j : ℕ) (v : Value) (right : Listpack) (same : Refilled xs ys n (values_at xs n)) (divided : Divided ys zs n j v right) where
-  pub half_left : Refilled xs zs n (cond (takes (take j (values_at xs n)) v) (take j (values_at xs n) ++ v ∷ []) (take j (values_at xs n)))
-  half_left = refill_as xs zs n _ _ (ap (λ us. cond (takes (take j us) v) (take j us ++ v ∷ []) (take j us)) same.here) (refill_again xs ys zs n (values_at xs n) _ same divided.left)
-
-  pub half_right : values_in right ≡ cond (takes (take j (values_at xs n)) v) (drop j (values_at xs n)) (v ∷ drop j (values_at xs n))
-  half_right = divided.cut ∙ ap (λ us. cond (takes (take j us) v) (drop j us) (v ∷ drop j us)) same.here
-
 -- the list after the part cut off has gone into a node of its own
 module _ (T : Tables) (e n : ℕ) (zs : List Node) (sound : Sound (room T) (links_of T)) (l : e < room T) (there : 0 < tally n (numbers T e)) (j : ℕ) (v : Value) (right : Listpack)
     (left : Refilled T.nodes.now zs n (cond (takes (take j (values_at T.nodes.now n)) v) (take j (values_at T.nodes.now n) ++ v ∷ []) (take j (values_at T.nodes.now n))))
@@ -190,15 +156,6 @@ module _ (T : Tables) (e n : ℕ) (zs : List Node) (sound : Sound (room T) (link
       ∙ append_assoc (map (values_at zs) ls) (values_at zs n ∷ []) (values_in right ∷ map (values_at zs) rs)
       ∙ (λ k. a k ++ left.here k ∷ rest k ∷ b k)
       ∙ ap (λ ms. map (values_at T.nodes.now) ls ++ (ms ++ map (values_at T.nodes.now) rs)) (put_divided us j v full)
-
--- what a node holds fits in it
-pub node_fits : (xs : List Node) (n : ℕ) → total (values_at xs n) ≤ most_bytes
-node_fits xs n = fits xs (n - 1)
-  where
-    fits : (ys : List Node) (k : ℕ) → total (get_or (map (λ (x : Node). values_in x.pack) ys) k []) ≤ most_bytes
-    fits [] k = omega (arith, total_none)
-    fits (y ∷ ys) zero = held_fits y.pack
-    fits (y ∷ ys) (suc k) = fits ys k
 
 -- ---- a node after a value has gone
 

@@ -1,14 +1,14 @@
 -- What a write to one node leaves of the table, by the nodes' numbers.
-use Rattle.std.proofs.Common.{◌≡◌, ℕ, zero, suc, ◌-◌, ◌<◌, ◌≤◌, ◌≢◌, List, [], map, length, get_or, take, drop, set, Some, None, Option, sym, refl, ap, ◌∙◌, arith, get_or-set_other, get_or-set_same}
-use Rattle.std.proofs.Math.ListN.{length-map}
+use Rattle.std.proofs.Common.{◌≡◌, ℕ, zero, suc, ◌-◌, ◌<◌, ◌≤◌, ◌≢◌, List, [], map, length, get_or, set, sym, refl, ap, ◌∙◌, arith, get_or-set_other, get_or-set_same}
+use Rattle.std.proofs.Math.ListN.{length-map, length-set}
 use Rattle.std.proofs.Math.Seq.{map-set, map-set_same}
 use Rattle.std.proofs.lemmas.List.{get_or-map}
 use Rattle.store.specs.Lists.{Value}
 use Rattle.listpack.specs.declared.pack.Listpack.{Listpack}
-use Rattle.listpack.specs.Packs.{values_in, Parted}
+use Rattle.listpack.specs.Packs.{values_in}
 use Rattle.links.specs.Links.{from}
 use Rattle.quicklist.specs.declared.table.Node.{Node}
-use Rattle.quicklist.specs.Tables.{next_in, prev_in, values_at, Ahead, Behind, Joined, Refilled, Halved}
+use Rattle.quicklist.specs.Tables.{next_in, prev_in, values_at, Ahead, Behind, Joined, Refilled}
 
 -- a field of the node with the number n, read
 pub read : {X : Type 0} (f : Node → X) (xs : List Node) (n : ℕ) (d : Node) (z : X) → n < length xs → f (get_or xs n d) ≡ get_or (map f xs) n z
@@ -83,7 +83,12 @@ refilled xs n y d vs o l e v w = record {
   else = λ m k ne. wrote_else (λ x. values_in x.pack) xs (n - 1) y [] (m - 1) (λ z. ne (omega arith));
 }
 
-pub halved : (xs : List Node) (n j : ℕ) (y d : Node) (r : Option Listpack) → 0 < n → n ≤ length xs → j ≤ length (values_at xs n) → y.next ≡ (get_or xs (n - 1) d).next → y.prev ≡ (get_or xs (n - 1) d).prev
-    → Parted j (values_in (get_or xs (n - 1) d).pack) (values_in y.pack) r → Halved xs (set xs (n - 1) y) n j r
-halved xs n j y d None o l k e v w = omega (arith, w.0, ap length (values_read xs n d o l))
-halved xs n j y d (Some right) o l k e v w = let q = values_read xs n d o l in (refilled xs n y d _ o l e v (w.1 ∙ ap (take j) q), w.2 ∙ ap (drop j) q)
+-- the listpack of one node written over
+abbrev pub repacked : List Node → ℕ → Node → Listpack → List Node
+repacked xs n d p = set xs (n - 1) (record { next = (get_or xs (n - 1) d).next; prev = (get_or xs (n - 1) d).prev; pack = p })
+
+pub repacked_long : (xs : List Node) (n : ℕ) (d : Node) (p : Listpack) → length (repacked xs n d p) ≡ length xs
+repacked_long xs n d p = length-set xs (n - 1) _
+
+pub repacked_refills : (xs : List Node) (n : ℕ) (d : Node) (p : Listpack) (vs : List Value) → 0 < n → n ≤ length xs → values_in p ≡ vs → Refilled xs (repacked xs n d p) n vs
+repacked_refills xs n d p vs o l w = refilled xs n _ d vs o l refl refl w

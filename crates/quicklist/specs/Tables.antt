@@ -1,11 +1,10 @@
 -- What the tables of a quicklist show.
-use Rattle.std.specs.Prelude.{◌≡◌, ℕ, zero, suc, ◌+◌, ◌-◌, ◌<◌, ◌≤◌, Bool, true, false, cond, ◌≢◌, List, [], ◌∷◌, ◌++◌, map, reverse, length, take, drop, slice_set, Some, None, Option, ◌==◌, slice_index, slice_index_or}
+use Rattle.std.specs.Prelude.{◌≡◌, ℕ, zero, suc, ◌+◌, ◌-◌, ◌<◌, ◌≤◌, Bool, true, false, cond, ◌≢◌, List, [], ◌∷◌, ◌++◌, map, reverse, length, slice_set, ◌==◌, slice_index, slice_index_or}
 use Rattle.order.specs.Keys.{Key, key_in}
 use Rattle.store.specs.declared.Side.{Side}
 use Rattle.store.specs.declared.Side.TheVariants.{Left, Right}
 use Rattle.store.specs.Limits.{largest_store}
 use Rattle.store.specs.Lists.{Value}
-use Rattle.listpack.specs.declared.pack.Listpack.{Listpack}
 use Rattle.listpack.specs.Packs.{values_in, takes, swaps}
 use Rattle.links.specs.Links.{from, chain, Leads, tally, numbered, sum, Links, listed, spare, Tied, Sound, Pool}
 use Rattle.nodes.specs.Nodes.{Nodes, flat, cut, added, changed}
@@ -178,16 +177,6 @@ pub record Refilled (xs ys : List Node) (n : ℕ) (vs : List Value) : Type 0 whe
   pub prevs : prev_in ys ≡ prev_in xs
   pub here : values_at ys n ≡ vs
   pub else : (m : ℕ) → 0 < m → m ≢ n → values_at ys m ≡ values_at xs m
-
--- node n holds its values before j now, and those from j on were handed out
-abbrev pub Halved : List Node → List Node → ℕ → ℕ → Option Listpack → Type 0
-Halved xs ys n j None = ⊥
-Halved xs ys n j (Some right) = Refilled xs ys n (take j (values_at xs n)) × (values_in right ≡ drop j (values_at xs n))
-
--- node n holds its values before j now, those from j on were handed out, and v stands between: in the node, if it fits there, else in front of what was handed out
-pub record Divided (xs ys : List Node) (n j : ℕ) (v : Value) (right : Listpack) : Type 0 where
-  pub left : Refilled xs ys n (cond (takes (take j (values_at xs n)) v) (take j (values_at xs n) ++ v ∷ []) (take j (values_at xs n)))
-  pub cut : values_in right ≡ cond (takes (take j (values_at xs n)) v) (drop j (values_at xs n)) (v ∷ drop j (values_at xs n))
 
 -- ---- a change to one list
 

@@ -9,7 +9,6 @@ ghost use Rattle.nodes.specs.Nodes.{pushed, added, cut, changed};
 ghost use Rattle.quicklist.specs.Tables.{room, Whole};
 ghost use Rattle.quicklist.specs.Store.{lists_of, nodes_in, Placed, Changed};
 
-use crate::packs::copy_at;
 use crate::table::Tables;
 use order::KeyRow;
 use records::{find, ranked};
@@ -55,7 +54,10 @@ impl<'a> Tables<'a> {
         };
         let spot = self.locate(e, index);
         let nodes = &*self.nodes;
-        copy_at(nodes, spot.node, spot.place, out)
+        nodes[spot.node as usize - 1]
+            .pack
+            .value_at(spot.place, out)
+            .unwrap()
     }
 
     // Adds an element at a side of a key's list.

@@ -7,7 +7,7 @@ ghost use Rattle.listpack.specs.Packs.{takes, swaps};
 ghost use Rattle.nodes.specs.Nodes.{flat, put_in, pushed, unless_empty, cut, added};
 ghost use Rattle.quicklist.specs.Tables.{room, links_of, numbers, nodes_of, values_at, count_at, end_node, end_place, node_before, Located, Relisted, Replaced};
 
-use crate::packs::{count_at, divide, insert_at, remove_at, replace_at};
+use crate::packs::divide;
 use crate::table::Tables;
 use listpack::Listpack;
 use store::Side;
@@ -27,10 +27,11 @@ impl<'a> Tables<'a> {
             → Relisted self.old self.new e (map (values_at self.old.nodes.now) ls
             ++ (put_in takes (values_at self.old.nodes.now n) j value.now ++ map (values_at self.old.nodes.now) rs)) }
     {
-        if insert_at(self.nodes, n, j, value) {
+        let pack = &mut self.nodes[n as usize - 1].pack;
+        if pack.insert(j, value).is_ok() {
             return;
         }
-        let right = divide(self.nodes, n, j, value);
+        let right = divide(pack, j, value);
         self.open(e, n, right);
     }
 
@@ -47,7 +48,7 @@ impl<'a> Tables<'a> {
             → Relisted self.old self.new e (map (values_at self.old.nodes.now) ls ++ (value.now ∷ []) ∷ map (values_at self.old.nodes.now) rs) }
     {
         let mut pack = Listpack::empty();
-        pack.prepend(value);
+        pack.prepend(value).unwrap();
         self.open(e, p, pack);
     }
 
@@ -69,7 +70,7 @@ impl<'a> Tables<'a> {
         ensures { result ≡ length (values_at self.now.nodes.now n) }
     {
         let nodes = &*self.nodes;
-        count_at(nodes, n)
+        nodes[n as usize - 1].pack.count()
     }
 
     // Whether node n holds no value.
@@ -109,7 +110,8 @@ impl<'a> Tables<'a> {
             return;
         }
         let j = self.end_place(side, n);
-        if insert_at(self.nodes, n, j, value) {
+        let pack = &mut self.nodes[n as usize - 1].pack;
+        if pack.insert(j, value).is_ok() {
             return;
         }
         let p = node_before(side, n);
@@ -129,7 +131,7 @@ impl<'a> Tables<'a> {
             → Relisted self.old self.new e (map (values_at self.old.nodes.now) ls
             ++ (if result then slice_set (values_at self.old.nodes.now n) j value.now else values_at self.old.nodes.now n) ∷ map (values_at self.old.nodes.now) rs) }
     {
-        replace_at(self.nodes, n, j, value)
+        self.nodes[n as usize - 1].pack.replace(j, value).is_ok()
     }
 
     // Takes the value at j out of a node. A node left empty goes out of the list.
@@ -144,7 +146,7 @@ impl<'a> Tables<'a> {
             → Relisted self.old self.new e (map (values_at self.old.nodes.now) ls
             ++ (unless_empty (remove (values_at self.old.nodes.now n) j) ++ map (values_at self.old.nodes.now) rs)) }
     {
-        remove_at(self.nodes, n, j);
+        self.nodes[n as usize - 1].pack.remove(j).unwrap();
         if self.holds_nothing(n) {
             self.close(e, n);
         }

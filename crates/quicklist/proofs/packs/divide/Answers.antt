@@ -1,15 +1,17 @@
+use Rattle.std.proofs.Common.{◌≡◌, false, not, take, drop, sym, ap, ◌∙◌}
+use Rattle.listpack.specs.Packs.{takes, values_in}
 use Rattle.listpack.proofs.Sizes.{takes_split}
-use Rattle.quicklist.specs.Tables.{values_at}
-use Rattle.quicklist.proofs.Refills.{divided_left, divided_right, node_fits}
+use Rattle.listpack.proofs.PackLaws.{held_fits}
+use Rattle.quicklist.proofs.Refills.{short_ok}
 use Rattle.quicklist.proofs.packs.divide.Goals as goal
 
-pub returns-then-not-append_at : goal.returns-then-not-append_at
-returns-then-not-append_at c =
-    divided_right c.args.nodes.now c.split_at.new.nodes c.append_at.new.nodes c.args.n c.args.j c.args.value.now c.in-Some.right c.requires.short
-    c.in-Some.ensures.0 c.in-Some.ensures.1 c.prepend.result c.prepend.new.self c.if-not-append_at.ensures.told c.if-not-append_at.ensures.packed
-    c.prepend.ensures.told c.prepend.ensures.left (takes_split (values_at c.args.nodes.now c.args.n) c.args.j c.args.value.now c.requires.short (node_fits c.args.nodes.now c.args.n))
-
-pub returns-else-not-append_at : goal.returns-else-not-append_at
-returns-else-not-append_at c =
-    divided_left c.args.nodes.now c.split_at.new.nodes c.append_at.new.nodes c.args.n c.args.j c.args.value.now c.in-Some.right c.requires.short
-    c.in-Some.ensures.0 c.in-Some.ensures.1 c.if-not-append_at.ensures.told c.if-not-append_at.ensures.packed
+-- a value that does not fit left of a split fits right of it
+pub unwrap-requires : goal.unwrap-requires
+unwrap-requires c =
+    let p = c.args.pack.now in
+    let j = c.args.j in
+    let v = c.args.value.now in
+    let front : values_in c.split_off.new.self ≡ take j (values_in p) = rw c.unwrap-right.ensures at c.split_off.ensures.front in
+    let back : values_in c.unwrap-right.result ≡ drop j (values_in p) = rw c.unwrap-right.ensures at c.split_off.ensures.back in
+    let full : false ≡ takes (take j (values_in p)) v = short_ok c.append.result false _ (sym (c.is_err.ensures.negation ∙ ap not c.if-is_err.true)) c.append.ensures.made c.requires.short ∙ ap (λ us. takes us v) front in
+    c.prepend.ensures.made.1 (c.requires.short, ap (λ us. takes us v) back ∙ takes_split (values_in p) j v c.requires.short (held_fits p) (sym full))

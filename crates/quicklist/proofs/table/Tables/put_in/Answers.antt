@@ -1,64 +1,95 @@
-use Rattle.std.proofs.Common.{◌≡◌, [], ◌∷◌, ◌++◌, map, length, sym, refl, ap, ◌∙◌, subst, arith}
+use Rattle.std.proofs.Common.{◌≡◌, true, false, [], ◌∷◌, ◌++◌, map, length, take, drop, cond, sym, refl, ap, ◌∙◌, subst, arith}
+use Rattle.std.specs.List.{insert}
 use Rattle.links.specs.Links.{tally}
 use Rattle.links.proofs.Tables.{within}
-use Rattle.quicklist.specs.Tables.{room, links_of, values_at, Relisted}
-use Rattle.quicklist.proofs.Refills.{told_insert, refill_sound, refill_relisted, refill_then, refill_numbers, put_taken, half_left, half_right, put_numbers, put_last, put_nodes}
+use Rattle.listpack.specs.Packs.{takes, values_in}
+use Rattle.quicklist.specs.Tables.{room, links_of, values_at, Refilled, Relisted}
+use Rattle.quicklist.proofs.Writes.{repacked, repacked_refills, repacked_long, values_read}
+use Rattle.quicklist.proofs.Refills.{told_ok, left_ok, left_err, refill_sound, refill_relisted, refill_then, refill_numbers, put_taken, put_numbers, put_last, put_nodes}
 use Rattle.quicklist.proofs.table.Tables.put_in.Goals as goal
+use Rattle.quicklist.proofs.table.Tables.put_in.Goals.{Then-is_ok, After-divide-right}
 
-pub insert_at-requires : goal.insert_at-requires
-insert_at-requires c =
-    let s = c.args.self.now in
-    let w = within (room s) (links_of s) c.requires.linked c.args.e c.args.n c.requires.which (omega (arith, c.requires.there)) in
-    record { some = w.0; within = w.1 }
+pub overflow_sub-pack : goal.overflow_sub-pack
+overflow_sub-pack c = (within (room c.args.self.now) (links_of c.args.self.now) c.requires.linked c.args.e c.args.n c.requires.which (omega (arith, c.requires.there))).0
 
-pub divide-right-requires : goal.divide-right-requires
-divide-right-requires c =
-    let s = c.args.self.now in
-    let w = within (room s) (links_of s) c.requires.linked c.args.e c.args.n c.requires.which (omega (arith, c.requires.there)) in
-    let p = c.if-insert_at.ensures.packed in
-    record { some = w.0; within = omega (arith, w.1, c.insert_at.auto.nodes); there = omega (arith, c.requires.place, ap length p.here); short = c.requires.short }
+pub bounds-self-n : goal.bounds-self-n
+bounds-self-n c = let w = within (room c.args.self.now) (links_of c.args.self.now) c.requires.linked c.args.e c.args.n c.requires.which (omega (arith, c.requires.there)) in omega (arith, w.0, w.1)
 
-pub returns-then-insert_at : goal.returns-then-insert_at
-returns-then-insert_at c =
+-- where the node takes the value
+pub returns-then-is_ok : goal.returns-then-is_ok
+returns-then-is_ok c =
     let s = c.args.self.now in
-    let p = c.if-insert_at.ensures in
-    let us = values_at s.nodes.now c.args.n in
-    let t = told_insert _ c.args.j us c.args.value.now c.requires.short c.requires.place p.told in
+    let n = c.args.n in
+    let v = c.args.value.now in
+    let us = values_at s.nodes.now n in
+    let d = c.index-self-n.result in
+    let x = c.insert.ensures in
+    let w = within (room s) (links_of s) c.requires.linked c.args.e n c.requires.which (omega (arith, c.requires.there)) in
+    let h = values_read s.nodes.now n d w.0 w.1 in
+    let ok = sym c.if-is_ok.true ∙ c.is_ok.ensures.value in
+    let re = repacked_refills s.nodes.now n d c.insert.new.self _ w.0 w.1 (left_ok c.insert.result ok x.ok ∙ ap (λ vs. insert vs c.args.j v) h) in
+    let len = repacked_long s.nodes.now n d c.insert.new.self in
+    let t : true ≡ takes us v = told_ok c.insert.result true _ ok x.made (omega (arith, c.requires.place, ap length h)) c.requires.short ∙ ap (λ vs. takes vs v) h in
     record {
-      linked = refill_sound s c.args.e c.args.n c.insert_at.new.nodes _ c.requires.linked c.requires.which c.requires.there p.packed c.insert_at.auto.nodes;
+      linked = refill_sound s c.args.e n _ _ c.requires.linked c.requires.which c.requires.there re len;
       nodes = λ ls rs is. subst (Relisted s _ c.args.e)
-          (ap (λ ms. map (values_at s.nodes.now) ls ++ (ms ++ map (values_at s.nodes.now) rs)) (put_taken us c.args.j c.args.value.now t))
-          (refill_relisted s c.args.e c.args.n c.insert_at.new.nodes _ c.requires.linked c.requires.which c.requires.there p.packed c.insert_at.auto.nodes _ refl refl refl refl refl ls rs is);
+          (ap (λ ms. map (values_at s.nodes.now) ls ++ (ms ++ map (values_at s.nodes.now) rs)) (put_taken us c.args.j v t))
+          (refill_relisted s c.args.e n _ _ c.requires.linked c.requires.which c.requires.there re len _ refl refl refl refl refl ls rs is);
     }
+
+-- where it does not: what the node held is still there when it is cut, and what the two parts hold then
+held : (c : After-divide-right) → values_in c.insert.new.self ≡ values_at c.args.self.now.nodes.now c.args.n
+held c =
+    let s = c.args.self.now in
+    let w = within (room s) (links_of s) c.requires.linked c.args.e c.args.n c.requires.which (omega (arith, c.requires.there)) in
+    left_err c.insert.result (sym c.if-is_ok.false ∙ c.is_ok.ensures.value) c.insert.ensures.err ∙ values_read s.nodes.now c.args.n c.index-self-n.result w.0 w.1
+
+left : (c : After-divide-right) → Refilled c.args.self.now.nodes.now (repacked c.args.self.now.nodes.now c.args.n c.index-self-n.result c.divide-right.new.pack) c.args.n
+    (cond (takes (take c.args.j (values_at c.args.self.now.nodes.now c.args.n)) c.args.value.now) (take c.args.j (values_at c.args.self.now.nodes.now c.args.n) ++ c.args.value.now ∷ []) (take c.args.j (values_at c.args.self.now.nodes.now c.args.n)))
+left c =
+    let s = c.args.self.now in
+    let j = c.args.j in
+    let v = c.args.value.now in
+    let w = within (room s) (links_of s) c.requires.linked c.args.e c.args.n c.requires.which (omega (arith, c.requires.there)) in
+    repacked_refills s.nodes.now c.args.n c.index-self-n.result c.divide-right.new.pack _ w.0 w.1
+    (c.divide-right.ensures.left ∙ ap (λ vs. cond (takes (take j vs) v) (take j vs ++ v ∷ []) (take j vs)) (held c))
+
+right : (c : After-divide-right) → values_in c.divide-right.result ≡ cond (takes (take c.args.j (values_at c.args.self.now.nodes.now c.args.n)) c.args.value.now)
+    (drop c.args.j (values_at c.args.self.now.nodes.now c.args.n)) (c.args.value.now ∷ drop c.args.j (values_at c.args.self.now.nodes.now c.args.n))
+right c = let j = c.args.j in let v = c.args.value.now in c.divide-right.ensures.right ∙ ap (λ vs. cond (takes (take j vs) v) (drop j vs) (v ∷ drop j vs)) (held c)
+
+full : (c : After-divide-right) → false ≡ takes (values_at c.args.self.now.nodes.now c.args.n) c.args.value.now
+full c =
+    let s = c.args.self.now in
+    let v = c.args.value.now in
+    let w = within (room s) (links_of s) c.requires.linked c.args.e c.args.n c.requires.which (omega (arith, c.requires.there)) in
+    let h = values_read s.nodes.now c.args.n c.index-self-n.result w.0 w.1 in
+    told_ok c.insert.result false _ (sym c.if-is_ok.false ∙ c.is_ok.ensures.value) c.insert.ensures.made (omega (arith, c.requires.place, ap length h)) c.requires.short ∙ ap (λ vs. takes vs v) h
 
 pub open-requires : goal.open-requires
 open-requires c =
     let s = c.args.self.now in
-    let len : length c.divide-right.new.nodes ≡ length s.nodes.now = c.divide-right.auto.nodes ∙ c.insert_at.auto.nodes in
-    let left = half_left s.nodes.now c.insert_at.new.nodes c.divide-right.new.nodes c.args.n c.args.j c.args.value.now c.divide-right.result c.if-insert_at.ensures.packed c.divide-right.ensures in
+    let a = (goal.at.open-requires c).After-divide-right in
+    let len = repacked_long s.nodes.now c.args.n c.index-self-n.result c.divide-right.new.pack in
     record {
-      linked = refill_sound s c.args.e c.args.n c.divide-right.new.nodes _ c.requires.linked c.requires.which c.requires.there left len;
+      linked = refill_sound s c.args.e c.args.n _ _ c.requires.linked c.requires.which c.requires.there (left a) len;
       same = c.requires.same ∙ sym len;
       which = omega (arith, c.requires.which, len);
       more = c.requires.more;
-      there = omega (arith, c.requires.there, ap (tally c.args.n) (refill_numbers s c.args.e c.args.n c.divide-right.new.nodes _ c.requires.linked c.requires.which c.requires.there left len c.args.e));
+      there = omega (arith, c.requires.there, ap (tally c.args.n) (refill_numbers s c.args.e c.args.n _ _ c.requires.linked c.requires.which c.requires.there (left a) len c.args.e));
     }
 
 pub returns : goal.returns
 returns c =
     let s = c.args.self.now in
-    let us = values_at s.nodes.now c.args.n in
-    let p = c.if-insert_at.ensures in
-    let full = told_insert _ c.args.j us c.args.value.now c.requires.short c.requires.place p.told in
-    let len : length c.divide-right.new.nodes ≡ length s.nodes.now = c.divide-right.auto.nodes ∙ c.insert_at.auto.nodes in
-    let left = half_left s.nodes.now c.insert_at.new.nodes c.divide-right.new.nodes c.args.n c.args.j c.args.value.now c.divide-right.result p.packed c.divide-right.ensures in
-    let rest = half_right s.nodes.now c.insert_at.new.nodes c.divide-right.new.nodes c.args.n c.args.j c.args.value.now c.divide-right.result p.packed c.divide-right.ensures in
+    let a = (goal.at.returns c).After-divide-right in
+    let len = repacked_long s.nodes.now c.args.n c.index-self-n.result c.divide-right.new.pack in
     record {
       linked = c.open.ensures.linked;
-      nodes = λ ls rs is. refill_then s c.args.e c.args.n c.divide-right.new.nodes _ c.requires.linked c.requires.which c.requires.there left len _ refl refl refl refl refl _ _
+      nodes = λ ls rs is. refill_then s c.args.e c.args.n _ _ c.requires.linked c.requires.which c.requires.there (left a) len _ refl refl refl refl refl _ _
           (subst (Relisted _ c.open.new.self c.args.e)
-          (put_nodes s c.args.e c.args.n c.divide-right.new.nodes c.requires.linked c.requires.which c.requires.there c.args.j c.args.value.now c.divide-right.result left rest full len ls rs is)
+          (put_nodes s c.args.e c.args.n _ c.requires.linked c.requires.which c.requires.there c.args.j c.args.value.now c.divide-right.result (left a) (right a) (full a) len ls rs is)
           (c.open.ensures.nodes (ls ++ c.args.n ∷ []) rs
-          (put_numbers s c.args.e c.args.n c.divide-right.new.nodes c.requires.linked c.requires.which c.requires.there c.args.j c.args.value.now c.divide-right.result left rest full len ls rs is)
-          (put_last s c.args.e c.args.n c.divide-right.new.nodes c.requires.linked c.requires.which c.requires.there c.args.j c.args.value.now c.divide-right.result left rest full len ls rs is)));
+          (put_numbers s c.args.e c.args.n _ c.requires.linked c.requires.which c.requires.there c.args.j c.args.value.now c.divide-right.result (left a) (right a) (full a) len ls rs is)
+          (put_last s c.args.e c.args.n _ c.requires.linked c.requires.which c.requires.there c.args.j c.args.value.now c.divide-right.result (left a) (right a) (full a) len ls rs is)));
     }

@@ -1,0 +1,7 @@
+use Rattle.std.proofs.Common.{◌≡◌}
+use Rattle.listpack.specs.Packs.{values_in}
+use Rattle.listpack.specs.Places.{place}
+use Rattle.listpack.proofs.pack.Listpack.place_from.Given as goal
+
+abbrev pub invariant-loop-i : goal.invariant-loop-i
+invariant-loop-i l = l.at ≡ place (values_in l.self) l._i
