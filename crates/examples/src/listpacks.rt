@@ -7,7 +7,7 @@ use store::LONGEST_VALUE;
 pub(crate) fn packed(values: &[&[u8]]) -> Listpack {
     let mut pack = Listpack::empty();
     for v in values {
-        pack.append(*v);
+        let _ = pack.append(*v);
     }
     pack
 }
@@ -50,17 +50,17 @@ fn bytes(rt: HostRuntime) -> Result<(), Fail> {
 #[test]
 fn changes(rt: HostRuntime) -> Result<(), Fail> {
     let mut pack = Listpack::empty();
-    assert!(rt; pack.append(b"b"));
-    assert!(rt; pack.prepend(b"a"));
-    assert!(rt; pack.insert(2, b"4096"));
-    assert!(rt; pack.insert(2, b""));
+    assert!(rt; pack.append(b"b").is_ok());
+    assert!(rt; pack.prepend(b"a").is_ok());
+    assert!(rt; pack.insert(2, b"4096").is_ok());
+    assert!(rt; pack.insert(2, b"").is_ok());
     has(&rt, &pack, &[b"a", b"b", b"", b"4096"])?;
-    assert!(rt; !pack.insert(5, b"x"));
-    assert!(rt; !pack.replace(4, b"x"));
-    assert!(rt; !pack.remove(4));
+    assert!(rt; pack.insert(5, b"x").is_err());
+    assert!(rt; pack.replace(4, b"x").is_err());
+    assert!(rt; pack.remove(4).is_err());
     has(&rt, &pack, &[b"a", b"b", b"", b"4096"])?;
-    assert!(rt; pack.replace(1, b"-0"));
-    assert!(rt; pack.remove(0));
+    assert!(rt; pack.replace(1, b"-0").is_ok());
+    assert!(rt; pack.remove(0).is_ok());
     has(&rt, &pack, &[b"-0", b"", b"4096"])
 }
 
@@ -90,20 +90,20 @@ fn just_full(rt: HostRuntime) -> Result<(), Fail> {
     let long: &[u8] = &[b'a'; LONGEST_VALUE];
     let mut pack = packed(&[long; 7]);
     assert_eq!(rt; pack.as_bytes().len(), 476);
-    assert!(rt; !pack.append(&[b'x'; 31]));
+    assert!(rt; pack.append(&[b'x'; 31]).is_err());
     assert!(rt; !pack.takes(&[b'x'; 31]));
     assert_eq!(rt; pack.as_bytes().len(), 476);
     assert!(rt; pack.takes(&[b'x'; 30]));
-    assert!(rt; pack.append(&[b'x'; 30]));
+    assert!(rt; pack.append(&[b'x'; 30]).is_ok());
     assert_eq!(rt; pack.as_bytes().len(), MOST_BYTES);
     let full = pack;
-    assert!(rt; !pack.append(b""));
-    assert!(rt; !pack.prepend(b"0"));
-    assert!(rt; !pack.insert(3, b"0"));
-    assert!(rt; !pack.replace(7, &[b'x'; 31]));
+    assert!(rt; pack.append(b"").is_err());
+    assert!(rt; pack.prepend(b"0").is_err());
+    assert!(rt; pack.insert(3, b"0").is_err());
+    assert!(rt; pack.replace(7, &[b'x'; 31]).is_err());
     assert!(rt; pack.as_bytes() == full.as_bytes());
-    assert!(rt; pack.replace(7, &[b'y'; 30]));
-    assert!(rt; pack.replace(0, &[b'y'; LONGEST_VALUE]));
+    assert!(rt; pack.replace(7, &[b'y'; 30]).is_ok());
+    assert!(rt; pack.replace(0, &[b'y'; LONGEST_VALUE]).is_ok());
     assert_eq!(rt; pack.as_bytes().len(), MOST_BYTES);
     Ok(())
 }
@@ -111,11 +111,11 @@ fn just_full(rt: HostRuntime) -> Result<(), Fail> {
 #[test]
 fn most_values(rt: HostRuntime) -> Result<(), Fail> {
     let mut pack = Listpack::empty();
-    assert!(rt; !pack.append(&[b'x'; LONGEST_VALUE + 1]));
+    assert!(rt; pack.append(&[b'x'; LONGEST_VALUE + 1]).is_err());
     for _i in 0..250 {
-        assert!(rt; pack.append(b""));
+        assert!(rt; pack.append(b"").is_ok());
     }
-    assert!(rt; !pack.append(b""));
+    assert!(rt; pack.append(b"").is_err());
     assert_eq!(rt; pack.count(), 250);
     assert_eq!(rt; pack.as_bytes().len(), 507);
     Ok(())

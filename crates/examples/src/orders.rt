@@ -3,13 +3,7 @@ use std::cmp::Ordering;
 use std::test::*;
 
 fn row(key: &[u8]) -> KeyRow {
-    match KeyRow::of(key) {
-        Some(r) => r,
-        None => KeyRow {
-            len: 0,
-            bytes: [0; 32],
-        },
-    }
+    KeyRow::try_from(key).unwrap_or(KeyRow::empty())
 }
 
 fn is_less(a: &[u8], b: &[u8]) -> bool {
@@ -34,7 +28,7 @@ fn a_row_reads_its_length_within_32(rt: HostRuntime) -> Result<(), Fail> {
         bytes: [7; 32],
     };
     assert_eq!(rt; long.as_bytes().len(), 32);
-    assert!(rt; KeyRow::of(&[7; 33]).is_none());
+    assert!(rt; KeyRow::try_from(&[7; 33][..]).is_err());
     assert!(rt; long.compare(&row(&[7; 32])) == Ordering::Equal);
     Ok(())
 }

@@ -68,8 +68,8 @@ fn refused(rt: &impl Abort, nodes: &mut [Node], lists: &mut [ListRecord]) -> Res
         Ok(_) => Err(Fail::new("prepared over tables that do not fit")),
         Err(back) => {
             assert_eq!(rt; back.number(), 7);
-            assert_eq!(rt; back.nodes.len(), sizes.0);
-            assert_eq!(rt; back.lists.len(), sizes.1);
+            assert_eq!(rt; back.tables.nodes.len(), sizes.0);
+            assert_eq!(rt; back.tables.lists.len(), sizes.1);
             Ok(())
         }
     }

@@ -22,7 +22,7 @@ pub(crate) fn holds<S: WholeLists>(
 fn number(r: Result<(), Refusal>) -> u8 {
     match r {
         Ok(()) => 0,
-        Err(e) => e.number(),
+        Err(refusal) => u8::from(refusal),
     }
 }
 
