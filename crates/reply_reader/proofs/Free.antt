@@ -3,8 +3,9 @@ use Rattle.std.proofs.Common.{◌≡◌, ℕ, zero, suc, ◌^◌, ◌<◌, List,
 use Rattle.std.specs.Fmt.{signed_decimal}
 use Rattle.std.proofs.lemmas.List.{append_cancel_left}
 use Rattle.reply.specs.Replies.{Reply, Replies, text, error, integer, bulk, nil, nil_array, array, none, then, count, crlf, nil_text, bytes_of, row_of, Lawful, EachLawful, Bulk}
-use Rattle.reply_reader.proofs.Numbers.{number_free}
-use Rattle.reply_reader.proofs.Lines.{text_free, filled_free, minus_first}
+use Rattle.wire.proofs.Numbers.{number_free}
+use Rattle.wire.proofs.Sizes.{filled_free}
+use Rattle.reply_reader.proofs.LineLemmas.{text_free, minus_first}
 use Rattle.reply_reader.proofs.Marks.{mark_of, rest_of, parts, as_text, as_error, as_integer, as_bulk, as_array}
 
 abbrev pub Free : ℕ → Type 0

@@ -1,6 +1,4 @@
-mod Sets
-mod Numbers
-mod Lines
+mod LineLemmas
 mod Marks
 mod Free
 mod Rows

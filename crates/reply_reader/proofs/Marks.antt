@@ -6,15 +6,16 @@ use Rattle.std.specs.Fmt.{signed_decimal}
 use Rattle.std.proofs.lemmas.Result.{MatchResult-weaker, MatchResult-from_both, IfOk-weaker, IfErr-weaker}
 use Rattle.reply.specs.Replies.{Reply, Replies, text, error, integer, bulk, nil, nil_array, array, count, crlf, nil_text, longest_bulk, bytes_of, row_of, Lawful, Bulk}
 use Rattle.reply_reader.specs.Reading.{Says, Means}
-use Rattle.reply_reader.specs.Steps.{Stopped, Finds, After, Came, Texts, TextSaid, Integers, Heads, Filled}
+use Rattle.wire.specs.Steps.{Stopped, Filled}
+use Rattle.reply_reader.specs.Steps.{Finds, After, Came, Texts, TextSaid, Integers, Heads}
 use Rattle.reply_reader.specs.declared.Found.{Found}
 use Rattle.reply_reader.specs.declared.Value.{Value}
-use Rattle.reply_reader.specs.declared.stop.Stop.{Stop}
-use Rattle.reply_reader.specs.declared.stop.Stop.TheVariants.{At}
-use Rattle.reply_reader.specs.Texts.{Short, Strays}
-use Rattle.reply_reader.proofs.Sets.{Front, Back, back}
-use Rattle.reply_reader.proofs.Numbers.{number_free, leads_digit}
-use Rattle.reply_reader.proofs.Lines.{zeros}
+use Rattle.wire.specs.declared.stop.Stop.{Stop}
+use Rattle.wire.specs.declared.stop.Stop.TheVariants.{At}
+use Rattle.wire.specs.Texts.{Short, Strays}
+use Rattle.wire.proofs.Sets.{Front, Back, back}
+use Rattle.wire.proofs.Numbers.{number_free, leads_digit}
+use Rattle.wire.proofs.Sizes.{zeros}
 
 abbrev pub mark_of : Reply → ℕ
 mark_of (text t) = 43

@@ -1,21 +1,22 @@
 -- At most one answer is right, and what follows from that.
 use Rattle.std.proofs.Common.{◌≡◌, ℕ, ◌+◌, ◌-◌, ◌<◌, ◌≤◌, List, [], ◌∷◌, ◌++◌, length, take, drop, Ok, Err, Result, sym, refl, ap, ◌∙◌, subst, inr, ⊎_elim, append_assoc, append-nil, arith, length-append, take-append-drop}
-use Rattle.std.specs.Prelude.{◌⊎◌, MatchResult, IsErrAnd, IfErr, IfNone}
+use Rattle.std.specs.Prelude.{◌⊎◌, MatchResult, IfNone}
 use Rattle.std.specs.Result.{result_ok}
 use Rattle.std.proofs.lemmas.List.{take-take}
 use Rattle.std.proofs.lemmas.Bool.{cases_order}
 use Rattle.reply.specs.Replies.{Reply, array, bytes_of, Lawful, deepest}
 use Rattle.reply.proofs.Overs.{from, arrays}
-use Rattle.reply_reader.specs.Texts.{Begins, Short, Strays}
-use Rattle.reply_reader.specs.Reading.{Says, Means, Answers, NoReply, Refused, SeenFrom}
+use Rattle.wire.specs.Texts.{Begins, Short, Strays}
+use Rattle.reply_reader.specs.Reading.{Says, Means, Answers, NoReply}
 use Rattle.reply_reader.specs.Laws.{Settled, Back, ReadsBack}
-use Rattle.reply_reader.specs.Steps.{Stopped, Finds}
+use Rattle.wire.specs.Steps.{Stopped}
+use Rattle.reply_reader.specs.Steps.{Finds}
 use Rattle.reply_reader.specs.declared.FirstReply.{FirstReply}
 use Rattle.reply_reader.specs.declared.Found.{Found}
-use Rattle.reply_reader.specs.declared.ReadError.{ReadError}
-use Rattle.reply_reader.specs.declared.ReadError.TheVariants.{More, Fault}
-use Rattle.reply_reader.specs.declared.stop.Stop.{Stop}
-use Rattle.reply_reader.specs.declared.stop.Stop.TheVariants.{Short as Ended, At}
+use Rattle.wire.specs.declared.stop.ReadError.{ReadError}
+use Rattle.wire.specs.declared.stop.ReadError.TheVariants.{More, Fault}
+use Rattle.wire.specs.declared.stop.Stop.{Stop}
+use Rattle.wire.specs.declared.stop.Stop.TheVariants.{Short as Ended, At}
 use Rattle.reply_reader.proofs.Free.{free}
 
 -- a beginning of a beginning
@@ -40,19 +41,6 @@ whole_short s v l b h =
 pub no_reply : (s : List ℕ) (e : Stop) → Stopped (Says deepest) s e → NoReply s
 no_reply s Ended h v l b = whole_short s v l b h
 no_reply s (At k) h v l b = h.2.open_ended (bytes_of v) (v, l, refl) b
-
--- a stop, told from the front of the bytes
-pub refused : (L : List ℕ → Type 0) (s : List ℕ) (stop : Stop) (e : ReadError) → Stopped L s stop → SeenFrom (length s) stop e → Refused L s e
-refused L s Ended e h seen = subst (Refused L s) (sym seen) h
-refused L s (At k) e h seen =
-    let place : length s - k ≡ h.0 = omega (arith, h.1) in
-    subst (Refused L s) (sym (seen ∙ ap Fault place)) h.2
-
-pub seen_from_front : (d : ℕ) (s : List ℕ) (r : Result Found Stop) (seen : Result Found ReadError) (Made : Stop → ReadError → Type 0) → MatchResult r (λ f. Finds d s f) (λ e. Stopped (Says d) s e) → MatchResult r (λ f. seen ≡ Ok f) (λ e. IsErrAnd seen (Made e)) →
-    ((stop : Stop) (e : ReadError) → Made stop e → SeenFrom (length s) stop e) → IfErr seen (Refused (Says d) s)
-seen_from_front d s (Ok f) seen Made h g is = subst (λ x. IfErr x (Refused (Says d) s)) (sym g) tt
-seen_from_front d s (Err stop) (Ok f) Made h g is = absurd g
-seen_from_front d s (Err stop) (Err e) Made h g is = refused (Says d) s stop e h (is stop e g)
 
 -- no reply is read where a step stops
 pub unread : (s : List ℕ) (left : ℕ) (r : Result Found Stop) → MatchResult r (λ f. Finds deepest s f) (λ e. Stopped (Says deepest) s e) → IfNone (result_ok r) ((left ≡ 0) ⊎ NoReply s)

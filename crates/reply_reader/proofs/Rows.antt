@@ -3,11 +3,12 @@ use Rattle.std.proofs.Common.{◌≡◌, ℕ, zero, suc, ◌+◌, ◌-◌, ◌�
 use Rattle.std.proofs.lemmas.List.{take_at}
 use Rattle.reply.specs.Replies.{Reply, Replies, array, nil, nil_array, none, then, count, crlf, nil_text, most_elements, bytes_of, row_of, Lawful, EachLawful}
 use Rattle.reply_reader.specs.Reading.{Says}
-use Rattle.reply_reader.specs.Steps.{Stopped, After, Heads, Rows}
-use Rattle.reply_reader.specs.declared.stop.Stop.{Stop}
-use Rattle.reply_reader.proofs.Sets.{Front, Back, front, back}
-use Rattle.reply_reader.proofs.Numbers.{number_free}
-use Rattle.reply_reader.proofs.Lines.{minus_first}
+use Rattle.wire.specs.Steps.{Stopped}
+use Rattle.reply_reader.specs.Steps.{After, Heads, Rows}
+use Rattle.wire.specs.declared.stop.Stop.{Stop}
+use Rattle.wire.proofs.Sets.{Front, Back, front, back}
+use Rattle.wire.proofs.Numbers.{number_free}
+use Rattle.reply_reader.proofs.LineLemmas.{minus_first}
 use Rattle.reply_reader.proofs.Marks.{rest_of, mark_is, as_array}
 use Rattle.reply_reader.proofs.Free.{free}
 

@@ -2,11 +2,11 @@
 use Rattle.std.specs.Prelude.{◌≡◌, ℕ, ◌+◌, ◌-◌, List, ◌++◌, length, drop, Some, None, Option, Ok, Result}
 use Rattle.reply.specs.Replies.{Reply, Replies, text, error, integer, bulk, nil, nil_array, array, none, then, count, bytes_of, row_of, Lawful, EachLawful, deepest}
 use Rattle.reply.specs.Written.{Wrote, Headed, RowWrote}
-use Rattle.reply_reader.specs.Texts.{Begins, Short, Strays}
+use Rattle.wire.specs.Texts.{Begins, Short, Strays}
 use Rattle.reply_reader.specs.Reading.{Says, Means, Answers, Gives, Next}
 use Rattle.reply_reader.specs.declared.Value.{Value}
 use Rattle.reply_reader.specs.declared.FirstReply.{FirstReply}
-use Rattle.reply_reader.specs.declared.ReadError.{ReadError}
+use Rattle.wire.specs.declared.stop.ReadError.{ReadError}
 use Rattle.reply_reader.specs.declared.Elements.{Elements}
 
 -- of any bytes, at most one answer is right

@@ -1,4 +1,3 @@
-pub mod Texts
 pub mod Reading
 pub mod Laws
 pub mod Steps

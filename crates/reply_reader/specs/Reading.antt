@@ -1,14 +1,12 @@
 -- What a value that was read stands for, and what an answer says of the bytes.
-use Rattle.std.specs.Prelude.{◌≡◌, ℕ, suc, ◌-◌, ◌⊎◌, List, [], ◌++◌, length, Some, None, Option, Result, MatchResult}
+use Rattle.std.specs.Prelude.{◌≡◌, ℕ, suc, ◌⊎◌, List, [], ◌++◌, length, Some, None, Option, Result, MatchResult}
 use Rattle.reply.specs.Replies.{Reply, Replies, text, error, integer, bulk, nil, nil_array, array, count, bytes_of, row_of, Lawful, deepest}
-use Rattle.reply_reader.specs.Texts.{Begins, Short, Strays}
+use Rattle.wire.specs.Texts.{Begins}
+use Rattle.wire.specs.Steps.{Refused}
+use Rattle.wire.specs.declared.stop.ReadError.{ReadError}
 use Rattle.reply_reader.specs.declared.Value.{Value}
 use Rattle.reply_reader.specs.declared.Value.TheVariants.{Text, Error, Integer, Bulk, Nil, NilArray, Array}
 use Rattle.reply_reader.specs.declared.FirstReply.{FirstReply}
-use Rattle.reply_reader.specs.declared.ReadError.{ReadError}
-use Rattle.reply_reader.specs.declared.ReadError.TheVariants.{More, Fault}
-use Rattle.reply_reader.specs.declared.stop.Stop.{Stop}
-use Rattle.reply_reader.specs.declared.stop.Stop.TheVariants.{Short as Ended, At}
 use Rattle.reply_reader.specs.declared.Elements.{Elements}
 
 -- the bytes of lawful replies, where d arrays may lie inside one another
@@ -25,11 +23,6 @@ Means Nil v = v ≡ nil
 Means NilArray v = v ≡ nil_array
 Means (Array part n) v = (vs : Replies) × (v ≡ array vs) × (n ≡ count vs) × (part.now ≡ row_of vs)
 
--- why no text of L begins s: s is a proper beginning of one; or s leaves all of them after p bytes
-abbrev pub Refused : (List ℕ → Type 0) → List ℕ → ReadError → Type 0
-Refused L s More = Short L s
-Refused L s (Fault p) = Strays L s p
-
 -- the bytes of a lawful reply come first in s, and it has so many
 abbrev pub Takes : ℕ → List ℕ → FirstReply → Type 0
 Takes d s f = (v : Reply) × Lawful v d × Means f.value v × Begins (bytes_of v) s × (f.size ≡ length (bytes_of v))
@@ -37,11 +30,6 @@ Takes d s f = (v : Reply) × Lawful v d × Means f.value v × Begins (bytes_of v
 -- an answer is right
 abbrev pub AnswersTo : ℕ → List ℕ → Result FirstReply ReadError → Type 0
 AnswersTo d s r = MatchResult r (Takes d s) (Refused (Says d) s)
-
--- what a stop in n bytes tells from their front
-abbrev pub SeenFrom : ℕ → Stop → ReadError → Type 0
-SeenFrom n Ended e = e ≡ More
-SeenFrom n (At k) e = e ≡ Fault (n - k)
 
 abbrev pub Answers : List ℕ → Result FirstReply ReadError → Type 0
 Answers s a = AnswersTo deepest s a

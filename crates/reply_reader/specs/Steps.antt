@@ -1,40 +1,15 @@
 -- What each step of the reader says of the bytes that it is given.
-use Rattle.std.specs.Prelude.{◌≡◌, ℕ, ◌+◌, ◌≤◌, ◌⊎◌, List, ◌∷◌, ◌++◌, length, take, drop, ℤ, Some, None, decimal, Option, Result, MatchResult, FitsSigned, ◌≢◌}
+use Rattle.std.specs.Prelude.{◌≡◌, ℕ, ◌≤◌, ◌⊎◌, List, ◌∷◌, ◌++◌, length, take, drop, ℤ, Some, None, decimal, Option, Result, MatchResult, FitsSigned, ◌≢◌}
 use Rattle.std.specs.Int.{w64}
 use Rattle.std.specs.List.{AllByRecursion}
 use Rattle.std.specs.Fmt.{signed_decimal}
 use Rattle.std.specs.Borrow.{Bor}
-use Rattle.reply.specs.Replies.{Reply, Replies, count, bytes_of, row_of, Lawful, EachLawful, crlf, nil_text, Byte, Letter, Text}
-use Rattle.reply_reader.specs.Texts.{Short, Strays}
+use Rattle.reply.specs.Replies.{Reply, Replies, count, bytes_of, row_of, Lawful, EachLawful, crlf, nil_text, Letter, Text}
 use Rattle.reply_reader.specs.Reading.{Says, Means}
 use Rattle.reply_reader.specs.declared.Found.{Found}
-use Rattle.reply_reader.specs.declared.stop.Stop.{Stop}
-use Rattle.reply_reader.specs.declared.stop.Stop.TheVariants.{Short as Ended, At}
+use Rattle.wire.specs.Steps.{Stopped, Between, Number}
+use Rattle.wire.specs.declared.stop.Stop.{Stop}
 use Rattle.reply_reader.specs.declared.Value.{Value}
-
--- why no text of L begins s; a stop tells how many bytes there are from the one that strays on
-abbrev pub Stopped : (List ℕ → Type 0) → List ℕ → Stop → Type 0
-Stopped L s Ended = Short L s
-Stopped L s (At k) = (p : ℕ) × (p + k ≡ length s) × Strays L s p
-
--- just one text
-abbrev pub Just : List ℕ → List ℕ → Type 0
-Just v w = w ≡ v
-
-abbrev pub Between : ℕ → ℕ → ℕ → Type 0
-Between low high n = (low ≤ n) × (n ≤ high)
-
--- a number and CR LF
-abbrev pub Number : ℕ → ℕ → List ℕ → Type 0
-Number low high w = (n : ℕ) × Between low high n × (w ≡ decimal n ++ crlf)
-
--- no digit comes first
-abbrev pub NoDigit : List ℕ → Type 0
-NoDigit s = (c : ℕ) (r : List ℕ) → s ≡ c ∷ r → 48 ≤ c → c ≤ 57 → ⊥
-
--- no number up to high begins with the digits of n and the first byte of s
-abbrev pub Ends : ℕ → ℕ → List ℕ → Type 0
-Ends high n s = (c : ℕ) (r : List ℕ) → s ≡ c ∷ r → (m : ℕ) → m ≤ high → (d : List ℕ) → decimal m ≢ decimal n ++ (c ∷ d)
 
 -- no minus comes first
 abbrev pub NoMinus : List ℕ → Type 0
@@ -67,14 +42,6 @@ Texts w = (t : List ℕ) × Text t × (w ≡ t ++ crlf)
 -- a text was read, of which a value was made
 abbrev pub TextSaid : (Bor (List ℕ) → Value → Type 0) → List ℕ → Found → Type 0
 TextSaid made s f = (t : Bor (List ℕ)) × Text t.now × made t f.value × (s ≡ (t.now ++ crlf) ++ f.rest.now)
-
--- n bytes
-abbrev pub Sized : ℕ → List ℕ → Type 0
-Sized n b = (length b ≡ n) × AllByRecursion Byte b
-
--- n bytes and CR LF
-abbrev pub Filled : ℕ → List ℕ → Type 0
-Filled n w = (b : List ℕ) × Sized n b × (w ≡ b ++ crlf)
 
 -- a lawful value was read, and what stands behind it
 abbrev pub Finds : ℕ → List ℕ → Found → Type 0

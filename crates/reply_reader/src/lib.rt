@@ -8,11 +8,11 @@ ghost use Rattle.reply_reader.specs.Reading.{Answers, AnswersTo, NoReply, Gives,
 ghost use Rattle.reply_reader.specs.Laws.{Settled, ReadsBack, ElementLaws};
 ghost use Rattle.reply_reader.specs.Steps.{Finds};
 
-mod steps;
-mod stop;
+mod lines;
 mod values;
 
 use values::read_value;
+pub use wire::ReadError;
 
 // How many arrays may lie inside one another, the outermost included.
 pub const DEEPEST: usize = 4;
@@ -41,13 +41,6 @@ struct Found<'a> {
 pub struct FirstReply<'a> {
     pub value: Value<'a>,
     pub size: usize,
-}
-
-// Why there is none: the bytes are a beginning of a reply that wants more; or neither, and then how many bytes a reply could begin with.
-#[derive(Clone, Copy, Debug, PartialEq, Eq)]
-pub enum ReadError {
-    More,
-    Fault(usize),
 }
 
 // The elements of an array that are still to be read.

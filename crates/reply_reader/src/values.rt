@@ -1,12 +1,13 @@
 // Values, each behind its mark.
 ghost use Rattle.std.specs.Prelude.{ℕ, suc, MatchResult, IfOk, IfErr};
 ghost use Rattle.reply_reader.specs.Reading.{Says};
-ghost use Rattle.reply_reader.specs.Steps.{Stopped, Finds, Came, Texts, TextSaid};
+ghost use Rattle.wire.specs.Steps.{Stopped};
+ghost use Rattle.reply_reader.specs.Steps.{Finds, Came, Texts, TextSaid};
 
-use crate::steps::{Bounds, filled, first, head, integer_line, text_line};
-use crate::stop::Stop;
+use crate::lines::{head, integer_line, text_line};
 use crate::{Found, Value};
 use reply::{LONGEST_BULK, MOST_ELEMENTS};
+use wire::{Bounds, Stop, filled, first};
 
 // How many bytes a bulk string may have.
 const BULK_SIZES: Bounds = Bounds {

@@ -4,7 +4,7 @@ use Rattle.std.specs.List.{flat_map, AllByRecursion}
 use Rattle.std.proofs.lemmas.List.{append_cancel_left}
 use Rattle.store.specs.Limits.{longest_value}
 use Rattle.request.specs.Grammar.{Arguments, count_line, argument_text, request_text, Fits}
-use Rattle.request.proofs.Numbers.{line_free}
+use Rattle.request.proofs.Marked.{line_free}
 use Rattle.request.proofs.Arguments.{argument_free}
 
 rows_free : (xs bs : Arguments) (t u : List ℕ) → length xs ≡ length bs → AllByRecursion (λ b. length b ≤ longest_value) xs → AllByRecursion (λ b. length b ≤ longest_value) bs → flat_map argument_text xs ++ t ≡ flat_map argument_text bs ++ u → xs ≡ bs

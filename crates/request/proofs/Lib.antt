@@ -1,9 +1,8 @@
-mod Sets
-mod Numbers
+mod Passing
+mod Marked
 mod Arguments
 mod Rows
 mod Free
-mod Bytes
 mod Findings
 mod Laws
 mod Worked

@@ -3,23 +3,25 @@ use Rattle.std.proofs.Common.{◌≡◌, ℕ, ◌+◌, ◌*◌, ◌^◌, ◌<◌
 use Rattle.std.specs.List.{flat_map}
 use Rattle.std.proofs.lemmas.Fmt.{decimal_digit}
 use Rattle.store.specs.Limits.{longest_value}
-use Rattle.request.specs.Texts.{Strays}
+use Rattle.wire.specs.Texts.{Strays}
 use Rattle.request.specs.Grammar.{Arguments, crlf, count_line, argument_text, request_text, most_arguments}
 use Rattle.request.specs.Answers.{Takes, Lacks, parts_of}
 use Rattle.request.specs.Laws.{WorkedCases}
-use Rattle.request.specs.Steps.{Just, Number, Line, CountLine, LengthLine, Argument, Rows, Requests}
+use Rattle.wire.specs.Steps.{Just, Number}
+use Rattle.request.specs.Steps.{Line, CountLine, LengthLine, Argument, Rows, Requests}
 use Rattle.request.specs.declared.taken.Part.{Part}
-use Rattle.request.proofs.Sets.{front_strays, back_strays, front_just, byte_other}
-use Rattle.request.proofs.Numbers.{zero_strays, ends_high, back_line, back_number}
+use Rattle.wire.proofs.Sets.{front_strays, back_strays, front_just, byte_other}
+use Rattle.wire.proofs.Numbers.{zero_strays, ends_high, back_number}
+use Rattle.request.proofs.Marked.{back_line}
 use Rattle.request.proofs.Arguments.{front_argument}
 use Rattle.request.proofs.Rows.{front_request, back_request, front_rows}
 use Rattle.request.proofs.Findings.{lacks, faults}
 use Rattle.request.proofs.Laws.{taken_with}
 
 no_bytes : Lacks []
-no_bytes = lacks [] tt (record {
+no_bytes = lacks [] (record {
   word = request_text ([] ∷ []);
-  lawful = ([] ∷ [], (omega arith, omega arith, (omega arith, tt)), refl);
+  lawful = ([] ∷ [], ((omega arith, omega arith, (omega arith, tt)), (tt, tt)), refl);
   next = 42;
   rest = (decimal 1 ++ crlf) ++ flat_map argument_text ([] ∷ []);
   split = refl;
@@ -39,8 +41,9 @@ digit_strays mark low high n d hn hd l h past small =
     let rest = (48 + d) ∷ [] in
     let ends = ends_high high n d rest [] small h hd past refl in
     let cr : Strays (Just crlf) rest 0 = front_strays (Just crlf) (Just (13 ∷ [])) rest 0 (front_just (13 ∷ []) (10 ∷ []) rest) (byte_other 13 (48 + d) [] (λ e. omega arith)) in
-    subst (λ x. Strays (Line mark low high) ((mark ∷ x) ++ rest) (length (mark ∷ x) + 0)) (decimal_digit n hn)
-    (back_strays (Line mark low high) (Just crlf) (mark ∷ decimal n) rest 0 (back_number mark low high n rest small (l, h) ends) cr)
+    let number : Strays (Number low high) (decimal n ++ rest) (length (decimal n) + 0) = back_strays (Number low high) (Just crlf) (decimal n) rest 0 (back_number low high n rest small (l, h) ends) cr in
+    subst (λ x. Strays (Line mark low high) (mark ∷ (x ++ rest)) (1 + (length x + 0))) (decimal_digit n hn)
+    (back_strays (Line mark low high) (Number low high) (mark ∷ []) (decimal n ++ rest) (length (decimal n) + 0) (back_line mark low high (decimal n ++ rest)) number)
 
 star_17 : Strays CountLine (42 ∷ 49 ∷ 55 ∷ []) 2
 star_17 = digit_strays 42 1 most_arguments 1 7 (omega arith) (omega arith) (omega arith) (omega arith) (omega arith) (omega arith)
@@ -84,9 +87,9 @@ whole =
 pub worked : WorkedCases
 worked = record {
   no_bytes = no_bytes;
-  zero = faults (42 ∷ 48 ∷ []) (omega arith, (omega arith, tt)) 1 (strays (42 ∷ 48 ∷ []) 1 (star_0 []));
-  leading_zero = faults (42 ∷ 48 ∷ 49 ∷ []) (omega arith, (omega arith, (omega arith, tt))) 1 (strays (42 ∷ 48 ∷ 49 ∷ []) 1 (star_0 (49 ∷ [])));
-  seventeen = faults (42 ∷ 49 ∷ 55 ∷ []) (omega arith, (omega arith, (omega arith, tt))) 2 (strays (42 ∷ 49 ∷ 55 ∷ []) 2 star_17);
-  sixty_five = faults (42 ∷ 49 ∷ 13 ∷ 10 ∷ 36 ∷ 54 ∷ 53 ∷ []) (omega arith, (omega arith, (omega arith, (omega arith, (omega arith, (omega arith, (omega arith, tt))))))) 6 dollar_65;
+  zero = faults (42 ∷ 48 ∷ []) 1 (strays (42 ∷ 48 ∷ []) 1 (star_0 []));
+  leading_zero = faults (42 ∷ 48 ∷ 49 ∷ []) 1 (strays (42 ∷ 48 ∷ 49 ∷ []) 1 (star_0 (49 ∷ [])));
+  seventeen = faults (42 ∷ 49 ∷ 55 ∷ []) 2 (strays (42 ∷ 49 ∷ 55 ∷ []) 2 star_17);
+  sixty_five = faults (42 ∷ 49 ∷ 13 ∷ 10 ∷ 36 ∷ 54 ∷ 53 ∷ []) 6 dollar_65;
   whole = whole;
 }

@@ -1,11 +1,11 @@
 -- What the reader answers, and which answer is right for given bytes.
 use Rattle.std.specs.Prelude.{◌≡◌, ℕ, ◌+◌, ◌≤◌, List, [], ◌∷◌, map, length, take, drop, Ok, Err, Result}
-use Rattle.request.specs.Texts.{Begins}
+use Rattle.wire.specs.Texts.{Begins}
 use Rattle.request.specs.Grammar.{Arguments, length_line, count_line, argument_text, request_text, Lawful}
 use Rattle.request.specs.declared.taken.Part.{Part}
 use Rattle.request.specs.declared.taken.Request.{Request}
-use Rattle.request.specs.declared.stop.ReadError.{ReadError}
-use Rattle.request.specs.declared.stop.ReadError.TheVariants.{More, Fault}
+use Rattle.wire.specs.declared.stop.ReadError.{ReadError}
+use Rattle.wire.specs.declared.stop.ReadError.TheVariants.{More, Fault}
 
 -- ---- where arguments stand
 

@@ -1,4 +1,3 @@
-pub mod Texts
 pub mod Grammar
 pub mod Answers
 pub mod Laws

@@ -1,114 +1,42 @@
 // The steps of the reader.
-ghost use Rattle.std.specs.Prelude.{◌≡◌, ◌≤◌, [], ◌∷◌, length, take, decimal, IfSome, IfNone, IfOk, IfErr};
-ghost use Rattle.store.specs.Limits.{longest_value};
-ghost use Rattle.request.specs.Grammar.{crlf, line, count_line, length_line, most_arguments};
-ghost use Rattle.request.specs.Steps.{left, Passed, Stuck, Between, Just, Sized, Number, Line, CountLine, LengthLine, Argument, Requests, NoDigit, Ends, Digit, Put, PutAll, Rows, Read};
+ghost use Rattle.std.specs.Prelude.{◌≡◌, ◌++◌, length, IfOk, IfErr};
+ghost use Rattle.wire.specs.Steps.{Stopped, Between};
+ghost use Rattle.request.specs.Grammar.{line, count_line, most_arguments};
+ghost use Rattle.request.specs.Steps.{left, Passed, Stuck, Line, CountLine, Argument, Rows, Requests, Put, PutAll, Read};
 
-use crate::reader::{Bounds, Reader};
-use crate::stop::Stop;
+use crate::reader::Reader;
 use crate::taken::{MOST_ARGUMENTS, Part, Request};
 use store::LONGEST_VALUE;
+use wire::{Bounds, Stop, filled, number, pass};
 
 // How many arguments a request may have.
 const COUNTS: Bounds = Bounds {
     low: 1,
-    high: MOST_ARGUMENTS,
+    high: MOST_ARGUMENTS as u64,
 };
 
 // How many bytes an argument may have.
 const LENGTHS: Bounds = Bounds {
     low: 0,
-    high: LONGEST_VALUE,
+    high: LONGEST_VALUE as u64,
 };
 
-// Bytes and numbers.
+// Passes a line of its mark and a number within the bounds.
+fn line(bytes: &[u8], mark: u8, bounds: Bounds) -> Result<(u64, &[u8]), Stop>
+    ensures within { IfOk result (λ p. Between bounds.low bounds.high p.0) }
+    ensures passed { IfOk result (λ p. bytes.now ≡ line mark p.0 ++ p.1.now) }
+    ensures stopped { IfErr result (Stopped (Line mark bounds.low bounds.high) bytes.now) }
+{
+    let after = pass(bytes, mark)?;
+    number(after, bounds)
+}
+
 impl<'a> Reader<'a> {
-    // Passes the byte `b`.
-    fn byte(&mut self, b: u8) -> Result<(), Stop>
-        ensures passed { IfOk result (λ _. Passed self.old self.new (b ∷ [])) }
-        ensures stuck { IfErr result (Stuck (Just (b ∷ [])) self.old) }
+    // What is left to read.
+    fn rest(&self) -> &'a [u8]
+        ensures { result.now ≡ left self.now }
     {
-        if self.at >= self.bytes.len() {
-            return Err(Stop::Short);
-        }
-        if self.bytes[self.at] != b {
-            return Err(Stop::At(self.at));
-        }
-        self.at += 1;
-        Ok(())
-    }
-
-    // Passes the bytes `b` and `d`.
-    fn two_bytes(&mut self, b: u8, d: u8) -> Result<(), Stop>
-        ensures passed { IfOk result (λ _. Passed self.old self.new (b ∷ d ∷ [])) }
-        ensures stuck { IfErr result (Stuck (Just (b ∷ d ∷ [])) self.old) }
-    {
-        self.byte(b)?;
-        self.byte(d)?;
-        Ok(())
-    }
-
-    // Passes CR LF.
-    fn line_end(&mut self) -> Result<(), Stop>
-        ensures passed { IfOk result (λ _. Passed self.old self.new crlf) }
-        ensures stuck { IfErr result (Stuck (Just crlf) self.old) }
-    {
-        self.two_bytes(b'\r', b'\n')
-    }
-
-    // The digit that comes next.
-    fn digit(&self) -> Option<usize>
-        ensures digit { IfSome result (Digit self.now) }
-        ensures none { IfNone result (NoDigit (left self.now)) }
-    {
-        if self.at >= self.bytes.len() {
-            return None;
-        }
-        let b = self.bytes[self.at];
-        if !b.is_ascii_digit() {
-            return None;
-        }
-        Some(usize::from(b - b'0'))
-    }
-
-    // Passes the longest numeral that begins one of a number within the bounds.
-    fn digits(&mut self, bounds: Bounds) -> Result<usize, Stop>
-        ensures within { IfOk result (Between bounds.low bounds.high) }
-        ensures passed { IfOk result (λ n. Passed self.old self.new (decimal n)) }
-        ensures ends { IfOk result (λ n. Ends bounds.high n (left self.new)) }
-        ensures stuck { IfErr result (Stuck (Number bounds.low bounds.high) self.old) }
-    {
-        if self.at >= self.bytes.len() {
-            return Err(Stop::Short);
-        }
-        let Some(first) = self.digit() else {
-            return Err(Stop::At(self.at));
-        };
-        if first < bounds.low {
-            return Err(Stop::At(self.at));
-        }
-        self.at += 1;
-        let mut n = first;
-        while let Some(d) = self.digit() {
-            if n == 0 || n * 10 + d > bounds.high {
-                return Ok(n);
-            }
-            n = n * 10 + d;
-            self.at += 1;
-        }
-        Ok(n)
-    }
-
-    // Passes a line of its mark and a number within the bounds.
-    fn number(&mut self, mark: u8, bounds: Bounds) -> Result<usize, Stop>
-        ensures within { IfOk result (Between bounds.low bounds.high) }
-        ensures passed { IfOk result (λ n. Passed self.old self.new (line mark n)) }
-        ensures stuck { IfErr result (Stuck (Line mark bounds.low bounds.high) self.old) }
-    {
-        self.byte(mark)?;
-        let n = self.digits(bounds)?;
-        self.line_end()?;
-        Ok(n)
+        &self.bytes[self.at..]
     }
 
     // Passes the line of the count.
@@ -117,43 +45,9 @@ impl<'a> Reader<'a> {
         ensures passed { IfOk result (λ n. Passed self.old self.new (count_line n)) }
         ensures stuck { IfErr result (Stuck CountLine self.old) }
     {
-        self.number(b'*', COUNTS)
-    }
-
-    // Passes the line of an argument's length.
-    fn length(&mut self) -> Result<usize, Stop>
-        ensures short { IfOk result (λ m. m ≤ longest_value) }
-        ensures passed { IfOk result (λ m. Passed self.old self.new (length_line m)) }
-        ensures stuck { IfErr result (Stuck LengthLine self.old) }
-    {
-        self.number(b'$', LENGTHS)
-    }
-}
-
-// Arguments and requests.
-impl<'a> Reader<'a> {
-    // Passes `size` bytes.
-    fn skip(&mut self, size: usize) -> Result<(), Stop>
-        ensures fits { IfOk result (λ _. size ≤ length (left self.old)) }
-        ensures passed { IfOk result (λ _. Passed self.old self.new (take size (left self.old))) }
-        ensures stuck { IfErr result (Stuck (Sized size) self.old) }
-    {
-        if self.bytes.len() - self.at < size {
-            return Err(Stop::Short);
-        }
-        self.at += size;
-        Ok(())
-    }
-
-    // The part of the `size` bytes that come next.
-    fn next(&self, size: usize) -> Part
-        ensures place { result.place ≡ self.now.at }
-        ensures size { result.size ≡ size }
-    {
-        Part {
-            place: self.at,
-            size,
-        }
+        let (n, rest) = line(self.rest(), b'*', COUNTS)?;
+        self.at = self.bytes.len() - rest.len();
+        Ok(n as usize)
     }
 
     // Passes an argument, and tells where its bytes stand.
@@ -161,11 +55,13 @@ impl<'a> Reader<'a> {
         ensures put { IfOk result (Put self.old self.new) }
         ensures stuck { IfErr result (Stuck Argument self.old) }
     {
-        let size = self.length()?;
-        let part = self.next(size);
-        self.skip(size)?;
-        self.line_end()?;
-        Ok(part)
+        let (size, after) = line(self.rest(), b'$', LENGTHS)?;
+        let (it, rest) = filled(after, size as usize)?;
+        self.at = self.bytes.len() - rest.len();
+        Ok(Part {
+            place: self.bytes.len() - after.len(),
+            size: it.len(),
+        })
     }
 
     // Passes as many arguments as there are parts, and writes where their bytes stand.

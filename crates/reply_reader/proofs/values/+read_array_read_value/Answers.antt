@@ -2,7 +2,7 @@ use Rattle.std.proofs.Common.{◌≡◌, suc, ◌+◌, ◌-◌, ◌++◌, decima
 use Rattle.std.proofs.lemmas.Result.{err_from_is_err_and}
 use Rattle.reply.specs.Replies.{crlf, most_elements}
 use Rattle.reply_reader.specs.Steps.{After, Came, Heads, Head, Rows}
-use Rattle.reply_reader.proofs.Sets.{front, back}
+use Rattle.wire.proofs.Sets.{front, back}
 use Rattle.reply_reader.proofs.Marks.{marked, none_yet, other_mark, array_mark, came_text, came_error}
 use Rattle.reply_reader.proofs.Rows.{Sofar, none_passed, stuck, one_more, front_array, back_array, no_longer, all_passed}
 use Rattle.reply_reader.proofs.values.+read_array_read_value.Goals as goal

@@ -1,8 +1,9 @@
 use Rattle.std.proofs.Common.{◌∷◌, ◌++◌, decimal, sym, refl, ap, ◌∙◌, subst, append_assoc, arith}
 use Rattle.std.proofs.lemmas.Result.{err_from_is_err_and}
 use Rattle.reply.specs.Replies.{bulk, crlf, longest_bulk}
-use Rattle.reply_reader.specs.Steps.{After, Heads, Head, Filled}
-use Rattle.reply_reader.proofs.Sets.{front, back}
+use Rattle.wire.specs.Steps.{Filled}
+use Rattle.reply_reader.specs.Steps.{After, Heads, Head}
+use Rattle.wire.proofs.Sets.{front, back}
 use Rattle.reply_reader.proofs.Marks.{front_bulk, back_bulk}
 use Rattle.reply_reader.proofs.values.read_bulk.Goals as goal
 

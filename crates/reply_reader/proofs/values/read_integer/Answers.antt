@@ -1,7 +1,7 @@
 use Rattle.std.proofs.Common.{[], refl}
 use Rattle.std.proofs.lemmas.Result.{err_from_is_err_and}
 use Rattle.reply_reader.specs.Steps.{After, Integers}
-use Rattle.reply_reader.proofs.Sets.{back}
+use Rattle.wire.proofs.Sets.{back}
 use Rattle.reply_reader.proofs.Marks.{kind_integer}
 use Rattle.reply_reader.proofs.values.read_integer.Goals as goal
 

@@ -3,14 +3,15 @@ use Rattle.std.proofs.lemmas.List.{length-take-le}
 use Rattle.std.proofs.lemmas.Result.{err_from_is_err_and}
 use Rattle.request.specs.Grammar.{count_line}
 use Rattle.request.specs.Steps.{Stuck, CountLine, Rows, Requests}
-use Rattle.request.proofs.Sets.{front, after}
+use Rattle.wire.proofs.Sets.{front}
+use Rattle.request.proofs.Passing.{after}
 use Rattle.request.proofs.Rows.{front_request, back_request, told}
 use Rattle.request.proofs.reader.Reader.request.Goals as goal
 
 pub returns-in_err-count-clause-stuck : goal.returns-in_err-count-clause-stuck
 returns-in_err-count-clause-stuck c =
     let p = err_from_is_err_and c.from_residual.result c.from_residual.ensures.1 in
-    rw (p.1, p.2) (front Requests CountLine _ _ _ (front_request _) c.in_err-count.ensures.stuck)
+    rw (p.1, p.2) (front Requests CountLine _ _ (front_request _) c.in_err-count.ensures.stuck)
 
 pub returns-in_err-arguments-clause-stuck : goal.returns-in_err-arguments-clause-stuck
 returns-in_err-arguments-clause-stuck c =

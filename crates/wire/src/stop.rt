@@ -1,0 +1,29 @@
+// Why nothing is read.
+ghost use Rattle.std.specs.Prelude.{length};
+ghost use Rattle.wire.specs.Steps.{SeenFrom};
+
+// Why no whole text was read: the bytes are a beginning of one that wants more; or no text has them, and then how many bytes one could begin with.
+#[derive(Clone, Copy, Debug, PartialEq, Eq)]
+pub enum ReadError {
+    More,
+    Fault(usize),
+}
+
+// Why a step did not pass what it reads: the bytes ended, or a byte cannot stand where it stands; then how many bytes there are from it on.
+#[derive(Clone, Copy)]
+pub enum Stop {
+    Short,
+    At(usize),
+}
+
+impl Stop {
+    // The same, told from the front of the bytes that the step was given.
+    pub fn seen_from(self, bytes: &[u8]) -> ReadError
+        ensures { SeenFrom (length bytes.now) self result }
+    {
+        match self {
+            Stop::Short => ReadError::More,
+            Stop::At(left) => ReadError::Fault(bytes.len().saturating_sub(left)),
+        }
+    }
+}
