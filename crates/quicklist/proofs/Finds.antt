@@ -1,5 +1,5 @@
 -- The lists by their keys: where a key's record is, and what a change of its record makes of the store.
-use Rattle.std.proofs.Common.{◌≡◌, ℕ, ◌<◌, [], map, length, Some, None, Option, sym, ap, ◌∙◌, subst, arith}
+use Rattle.std.proofs.Common.{◌≡◌, ℕ, ◌<◌, [], map, length, Some, None, Option, IsSome, refl, sym, ap, ◌∙◌, subst, arith}
 use Rattle.order.specs.Keys.{Key}
 use Rattle.store.specs.Lists.{at, keys_of}
 use Rattle.nodes.specs.Nodes.{Nodes, flat}
@@ -84,3 +84,8 @@ module _ (T : Tables) (w : Whole T) where
         λ z. e ∙ ap (λ ms. length (flat (map (values_at T.nodes.now) ms))) (first_none (room T) (links_of T) w.linked i b' z),
         λ ne. omega (arith, e, used_here T w.linked i b' ne, few_nodes (nodes_of T i) (loaded_filled T w i b')),
       ))
+
+-- where the list of a key has an element, there is a record of the key
+pub place_there : (T : Tables) (w : Whole T) (k : Key) (i : ℕ) (r : Option ℕ) → Placed T k r → i < length (at (lists_of T) k) → IsSome r
+place_there T w k i None p h = absurd (omega (arith, ap length (at_none T w k p)))
+place_there T w k i (Some e) p h = refl

@@ -74,5 +74,5 @@ rows_held t sized totalled =
 
 pub quicklist_laws : (q : Quicklist) → StoreLaws (room_of q) (lists_in q)
 quicklist_laws q =
-    rows_laws (room_of q) (rows_in_book (book_of q.tables)) q.sized.1 q.sized.2 (omega (arith, rows_held q.tables q.sized q.totalled, q.within))
+    rows_laws (room_of q) (rows_in_book (book_of q.tables)) q.whole.sized.1 q.whole.sized.2 (omega (arith, rows_held q.tables q.whole.sized q.whole.totalled, q.whole.within))
     (rows_short (book_of q.tables) (records_short q.tables q.tables.lists.now))

@@ -1,4 +1,5 @@
 pub mod Tables
+pub mod Props
 pub mod Store
 pub mod Laws
 pub mod Changes

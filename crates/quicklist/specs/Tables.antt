@@ -1,12 +1,12 @@
 -- What the tables of a quicklist show.
-use Rattle.std.specs.Prelude.{◌≡◌, ℕ, zero, suc, ◌+◌, ◌-◌, ◌<◌, ◌≤◌, Bool, true, false, cond, ◌≢◌, List, [], ◌∷◌, ◌++◌, map, reverse, length, slice_set, ◌==◌, slice_index, slice_index_or}
+use Rattle.std.specs.Prelude.{◌≡◌, ℕ, zero, suc, ◌+◌, ◌-◌, ◌<◌, ◌≤◌, Bool, true, false, cond, ◌≢◌, List, [], ◌∷◌, ◌++◌, map, length, slice_set, ◌==◌, slice_index, slice_index_or}
 use Rattle.order.specs.Keys.{Key, key_in}
 use Rattle.store.specs.declared.Side.{Side}
 use Rattle.store.specs.declared.Side.TheVariants.{Left, Right}
 use Rattle.store.specs.Limits.{largest_store}
 use Rattle.store.specs.Lists.{Value}
 use Rattle.listpack.specs.Packs.{values_in, takes, swaps}
-use Rattle.links.specs.Links.{from, chain, Leads, tally, numbered, sum, Links, listed, spare, Tied, Sound, Pool}
+use Rattle.links.specs.Links.{from, chain, sum, Links, listed, Tied, Sound, Pool}
 use Rattle.nodes.specs.Nodes.{Nodes, flat, cut, added, changed}
 use Rattle.nodes.specs.Books.{Book}
 use Rattle.records.specs.declared.record.ListRecord.{ListRecord}
@@ -65,39 +65,6 @@ abbrev pub book_of : Tables → Book
 book_of t = map (λ (r : ListRecord). (key_in r.name, map (values_at t.nodes.now) (chain (next_in t.nodes.now) (room t) r.first))) t.lists.now
 
 -- ---- what holds between any two calls
-
--- each list is led through from its first node to its last, and back
-abbrev pub Onward : Tables → Type 0
-Onward t = (e : ℕ) → e < room t → Leads (from ((links_of t).first e) (links_of t).next) 0 (numbers t e)
-
-abbrev pub Backward : Tables → Type 0
-Backward t = (e : ℕ) → e < room t → Leads (from ((links_of t).last e) (links_of t).prev) 0 (reverse (numbers t e))
-
--- the free nodes are led through from their first; listed and free nodes are all nodes, each once
-abbrev pub free_nodes : Tables → List ℕ
-free_nodes t = spare (room t) (links_of t)
-
-abbrev pub NodesFree : Tables → Type 0
-NodesFree t = Leads (from (links_of t).free (links_of t).next) 0 (free_nodes t)
-
-abbrev pub NodesOnce : Tables → Type 0
-NodesOnce t = (n : ℕ) → sum (λ e. tally n (numbers t e)) (room t) + tally n (free_nodes t) ≡ numbered (room t) n
-
-abbrev pub NodesAll : Tables → Type 0
-NodesAll t = sum (λ e. length (numbers t e)) (room t) + length (free_nodes t) ≡ room t
-
--- the free list records are led through from their first; those in use and the free ones are all records, each once
-abbrev pub free_lists : Tables → List ℕ
-free_lists t = chain (next_list t.lists.now) (room t) t.free_list
-
-abbrev pub ListsFree : Tables → Type 0
-ListsFree t = Leads (from t.free_list (next_list t.lists.now)) 0 (free_lists t)
-
-abbrev pub ListsOnce : Tables → Type 0
-ListsOnce t = (n : ℕ) → used t.lists.now n + tally n (free_lists t) ≡ numbered (room t) n
-
-abbrev pub ListsAll : Tables → Type 0
-ListsAll t = sum (λ k. used t.lists.now (suc k)) (room t) + length (free_lists t) ≡ room t
 
 -- both tables have one length, within the limits
 abbrev pub Sized : Tables → Type 0

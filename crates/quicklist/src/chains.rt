@@ -51,11 +51,9 @@ impl<'a> Tables<'a> {
         );
         let ends = tie(self.nodes, halfway, free, q);
         self.lists[e] = ListRecord {
-            name: it.name,
             first: ends.first,
             last: ends.last,
-            count: it.count,
-            next: it.next,
+            ..it
         };
         self.free_node = rest;
     }
@@ -86,11 +84,9 @@ impl<'a> Tables<'a> {
         );
         self.nodes[slot].next = free;
         self.lists[e] = ListRecord {
-            name: it.name,
             first: ends.first,
             last: ends.last,
-            count: it.count,
-            next: it.next,
+            ..it
         };
         self.free_node = n;
     }

@@ -49,9 +49,7 @@ impl<'a> Tables<'a> {
         requires there { index < length (at (lists_of self.now) key.now) }
         ensures { Copied longest_value (at (lists_of self.now) key.now) index out.old out.new (Some result) }
     {
-        let Some(e) = self.place_of(key) else {
-            return 0;
-        };
+        let e = self.place_of(key).unwrap();
         let spot = self.locate(e, index);
         let nodes = &*self.nodes;
         nodes[spot.node as usize - 1]
@@ -96,9 +94,7 @@ impl<'a> Tables<'a> {
         requires short { length value.now ≤ longest_value }
         ensures { Changed self.old self.new key.now (changed takes swaps (nodes_in self.old key.now) index value.now) }
     {
-        let Some(e) = self.place_of(key) else {
-            return;
-        };
+        let e = self.place_of(key).unwrap();
         self.write_over(e, index, value);
     }
 
@@ -108,9 +104,7 @@ impl<'a> Tables<'a> {
         requires there { index < length (at (lists_of self.old) key.now) }
         ensures { Changed self.old self.new key.now (cut (nodes_in self.old key.now) index) }
     {
-        let Some(e) = self.place_of(key) else {
-            return;
-        };
+        let e = self.place_of(key).unwrap();
         self.take_out(e, index);
     }
 
@@ -120,9 +114,7 @@ impl<'a> Tables<'a> {
         ensures { Copied longest_key (keys_of (lists_of self.now)) rank out.old out.new result }
     {
         let lists = &*self.lists;
-        let Some(e) = ranked(lists, rank) else {
-            return None;
-        };
+        let e = ranked(lists, rank)?;
         let it = self.lists[e];
         let key = it.name.as_bytes();
         lay(out, key);

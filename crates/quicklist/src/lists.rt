@@ -190,7 +190,7 @@ impl<'a> Tables<'a> {
             place -= here;
             node = self.nodes[node as usize - 1].next;
         }
-        Spot { node, place }
+        unreachable!()
     }
 
     // Adds a value before the one at an index of a list, or at the end of its last node.

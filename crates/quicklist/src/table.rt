@@ -1,5 +1,6 @@
 // The tables of a quicklist, and what holds of them between any two calls.
-ghost use Rattle.quicklist.specs.Tables.{Sized, Within, Onward, Backward, NodesFree, NodesOnce, NodesAll, ListsFree, ListsOnce, ListsAll, Loaded, Counted, Totalled, Named};
+ghost use Rattle.quicklist.specs.Tables.{Whole};
+ghost use Rattle.quicklist.specs.Props.{Whole-prop};
 
 use listpack::Listpack;
 use records::ListRecord;
@@ -25,18 +26,5 @@ pub(crate) struct Tables<'a> {
 #[derive(Drop)]
 pub struct Quicklist<'a> {
     pub(crate) tables: Tables<'a>,
-    ghost sized: { Sized tables },
-    ghost within: { Within tables },
-    ghost onward: { Onward tables },
-    ghost backward: { Backward tables },
-    ghost nodes_free: { NodesFree tables },
-    ghost nodes_once: { NodesOnce tables },
-    ghost nodes_all: { NodesAll tables },
-    ghost lists_free: { ListsFree tables },
-    ghost lists_once: { ListsOnce tables },
-    ghost lists_all: { ListsAll tables },
-    ghost loaded: { Loaded tables },
-    ghost counted: { Counted tables },
-    ghost totalled: { Totalled tables },
-    ghost named: { Named tables },
+    ghost whole: { Whole tables } by { Whole-prop tables },
 }

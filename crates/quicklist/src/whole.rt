@@ -12,13 +12,14 @@ use order::KeyRow;
 use records::ListRecord;
 use store::Side;
 
+// Kept: this and the next are two loops of one statement each; one function over both kinds of row would need a trait or a closure for that statement, and says no more.
 // Lets each node lead to the one before it.
 fn thread_nodes(nodes: &mut [Node])
     requires { length nodes.old ≤ largest_store }
     ensures { (k : ℕ) → k < length nodes.new → Downward nodes.new k }
 {
-    for i in 0..nodes.len() {
-        nodes[i].next = i as u16;
+    for (i, node) in nodes.iter_mut().enumerate() {
+        node.next = i as u16;
     }
 }
 
@@ -27,14 +28,10 @@ fn thread_lists(lists: &mut [ListRecord])
     requires { length lists.old ≤ largest_store }
     ensures { (k : ℕ) → k < length lists.new → Threaded lists.new k }
 {
-    for i in 0..lists.len() {
-        let blank = ListRecord::blank();
-        lists[i] = ListRecord {
-            name: blank.name,
-            first: 0,
-            last: 0,
-            count: 0,
+    for (i, list) in lists.iter_mut().enumerate() {
+        *list = ListRecord {
             next: i as u16,
+            ..ListRecord::blank()
         };
     }
 }
@@ -69,13 +66,11 @@ impl<'a> Tables<'a> {
         requires { e < length self.old.lists.now }
         ensures { Written self.old self.new e (key_in name) count next }
     {
-        let it = self.lists[e];
         self.lists[e] = ListRecord {
             name,
-            first: it.first,
-            last: it.last,
             count,
             next,
+            ..self.lists[e]
         };
     }
 

@@ -4,14 +4,8 @@ use Rattle.order.specs.Keys.{key_in}
 use Rattle.listpack.specs.Packs.{takes}
 use Rattle.nodes.proofs.NodeLaws.{flat_added}
 use Rattle.quicklist.specs.Store.{nodes_in}
-use Rattle.quicklist.proofs.Stores.{whole_of, kept, put_as, list_is, within_flat}
+use Rattle.quicklist.proofs.Stores.{put_as, list_is, within_flat}
 use Rattle.quicklist.proofs.table.Quicklist.add_element.Goals as goal
-
-pub insert-requires : goal.insert-requires
-insert-requires c = record { whole = whole_of c.args.self.now; more = c.requires.room; there = c.requires.within; short = c.requires.short }
-
-pub invariant_of-self : goal.invariant_of-self
-invariant_of-self c = kept c.insert.new.self c.insert.ensures.whole
 
 pub returns : goal.returns
 returns c =

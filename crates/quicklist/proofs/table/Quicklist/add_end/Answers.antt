@@ -4,14 +4,8 @@ use Rattle.store.specs.Answers.{joined}
 use Rattle.listpack.specs.Packs.{takes}
 use Rattle.nodes.proofs.NodeLaws.{flat_pushed}
 use Rattle.quicklist.specs.Store.{nodes_in}
-use Rattle.quicklist.proofs.Stores.{whole_of, kept, put_as, list_is}
+use Rattle.quicklist.proofs.Stores.{put_as, list_is}
 use Rattle.quicklist.proofs.table.Quicklist.add_end.Goals as goal
-
-pub push-requires : goal.push-requires
-push-requires c = record { whole = whole_of c.args.self.now; more = c.requires.room; short = c.requires.short }
-
-pub invariant_of-self : goal.invariant_of-self
-invariant_of-self c = kept c.push.new.self c.push.ensures.whole
 
 pub returns : goal.returns
 returns c =

@@ -2,14 +2,8 @@ use Rattle.std.proofs.Common.{ap, ◌∙◌}
 use Rattle.std.specs.List.{remove}
 use Rattle.nodes.proofs.NodeLaws.{flat_cut}
 use Rattle.quicklist.specs.Store.{nodes_in}
-use Rattle.quicklist.proofs.Stores.{whole_of, kept, put_as, list_is, there_flat}
+use Rattle.quicklist.proofs.Stores.{put_as, list_is, there_flat}
 use Rattle.quicklist.proofs.table.Quicklist.cut_element.Goals as goal
-
-pub remove-requires : goal.remove-requires
-remove-requires c = record { whole = whole_of c.args.self.now; there = c.requires }
-
-pub invariant_of-self : goal.invariant_of-self
-invariant_of-self c = kept c.remove.new.self c.remove.ensures.whole
 
 pub returns : goal.returns
 returns c =

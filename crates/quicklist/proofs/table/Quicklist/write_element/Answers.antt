@@ -2,14 +2,8 @@ use Rattle.std.proofs.Common.{set, ap, ◌∙◌}
 use Rattle.listpack.specs.Packs.{takes, swaps}
 use Rattle.nodes.proofs.NodeLaws.{flat_changed}
 use Rattle.quicklist.specs.Store.{nodes_in}
-use Rattle.quicklist.proofs.Stores.{whole_of, kept, put_as, list_is, there_flat}
+use Rattle.quicklist.proofs.Stores.{put_as, list_is, there_flat}
 use Rattle.quicklist.proofs.table.Quicklist.write_element.Goals as goal
-
-pub set-requires : goal.set-requires
-set-requires c = record { whole = whole_of c.args.self.now; there = c.requires.within; short = c.requires.short }
-
-pub invariant_of-self : goal.invariant_of-self
-invariant_of-self c = kept c.set.new.self c.set.ensures.whole
 
 pub returns : goal.returns
 returns c =

@@ -3,32 +3,37 @@ use Rattle.store.specs.Limits.{longest_value}
 use Rattle.store.specs.Answers.{Copied}
 use Rattle.links.proofs.Tables.{within}
 use Rattle.quicklist.specs.Tables.{room, links_of}
-use Rattle.quicklist.proofs.Finds.{at_none, at_here}
+use Rattle.quicklist.specs.Store.{Placed}
+use Rattle.quicklist.proofs.Finds.{place_there, at_here}
 use Rattle.quicklist.proofs.Writes.{values_read}
 use Rattle.quicklist.proofs.Places.{located_in, copied_there}
 use Rattle.quicklist.proofs.table.Tables.copy_out.Goals as goal
+use Rattle.quicklist.proofs.table.Tables.copy_out.Goals.{After-unwrap-e}
 
-pub returns-in_default : goal.returns-in_default
-returns-in_default c = absurd (omega (arith, c.requires.there, ap length (at_none c.args.self.now c.requires.whole c.args.key.now c.in_default.ensures)))
+pub unwrap-e-requires : goal.unwrap-e-requires
+unwrap-e-requires c = place_there c.args.self.now c.requires.whole c.args.key.now c.args.index c.place_of.result c.place_of.ensures c.requires.there
+
+place : (c : After-unwrap-e) → Placed c.args.self.now c.args.key.now (Some c.unwrap-e.result)
+place c = rw c.unwrap-e.ensures at c.place_of.ensures
 
 pub locate-spot-requires : goal.locate-spot-requires
 locate-spot-requires c =
-    let p = c.in-Some.ensures in
+    let p = (place (goal.at.locate-spot-requires c).After-unwrap-e) in
     let w = c.requires.whole in
-    record { linked = w.linked; same = w.sized.0; which = p.0; counted = w.counted c.in-Some.e p.0; there = omega (arith, c.requires.there, ap length (at_here c.args.self.now w c.in-Some.e c.args.key.now p)) }
+    record { linked = w.linked; same = w.sized.0; which = p.0; counted = w.counted c.unwrap-e.result p.0; there = omega (arith, c.requires.there, ap length (at_here c.args.self.now w c.unwrap-e.result c.args.key.now p)) }
 
 pub overflow_sub-spot : goal.overflow_sub-spot
 overflow_sub-spot c =
     let s = c.args.self.now in
-    let w = within (room s) (links_of s) c.requires.whole.linked c.in-Some.e c.locate-spot.result.node c.in-Some.ensures.0 (omega (arith, located_in s c.in-Some.e _ _ _ c.locate-spot.ensures)) in
+    let w = within (room s) (links_of s) c.requires.whole.linked c.unwrap-e.result c.locate-spot.result.node (place (goal.at.overflow_sub-spot c).After-unwrap-e).0 (omega (arith, located_in s c.unwrap-e.result _ _ _ c.locate-spot.ensures)) in
     w.0
 
 pub returns : goal.returns
 returns c =
     let s = c.args.self.now in
-    let w = within (room s) (links_of s) c.requires.whole.linked c.in-Some.e c.locate-spot.result.node c.in-Some.ensures.0 (omega (arith, located_in s c.in-Some.e _ _ _ c.locate-spot.ensures)) in
+    let w = within (room s) (links_of s) c.requires.whole.linked c.unwrap-e.result c.locate-spot.result.node (place (goal.at.returns c).After-unwrap-e).0 (omega (arith, located_in s c.unwrap-e.result _ _ _ c.locate-spot.ensures)) in
     let copied = rw c.unwrap.ensures at c.value_at.ensures in
     subst (λ vs. Copied longest_value vs c.args.index c.args.out.now c.value_at.new.out (Some c.unwrap.result))
-    (sym (at_here s c.requires.whole c.in-Some.e c.args.key.now c.in-Some.ensures))
-    (copied_there s c.in-Some.e _ _ _ c.locate-spot.ensures _ _ _
+    (sym (at_here s c.requires.whole c.unwrap-e.result c.args.key.now (place (goal.at.returns c).After-unwrap-e)))
+    (copied_there s c.unwrap-e.result _ _ _ c.locate-spot.ensures _ _ _
     (subst (λ vs. Copied longest_value vs c.locate-spot.result.place c.args.out.now c.value_at.new.out (Some c.unwrap.result)) (values_read s.nodes.now c.locate-spot.result.node c.index-nodes-spot.result w.0 w.1) copied))

@@ -27,5 +27,5 @@ loop-k-preserved c =
     walk_next c.args.self.now c.args.e c.args.index c.requires.linked c.requires.which _ _ _ c.loop-k.invariant c.count_in-here.result _ c.count_in-here.ensures (omega (arith, c.if-place-here.false))
     (read (λ (x : Node). x.next) c.args.self.now.nodes.now _ _ 0 (omega (arith, w.0, w.1)))
 
-pub returns : goal.returns
-returns c = absurd (walk_ends c.args.self.now c.args.e c.args.index c.requires.linked c.requires.which _ _ _ c.loop-k.invariant (omega (arith, c.loop-k-test.false)))
+pub unreachable-requires : goal.unreachable-requires
+unreachable-requires c = absurd (walk_ends c.args.self.now c.args.e c.args.index c.requires.linked c.requires.which _ _ _ c.loop-k.invariant (omega (arith, c.loop-k-test.false)))
