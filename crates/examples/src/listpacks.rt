@@ -68,8 +68,8 @@ fn changes(rt: HostRuntime) -> Result<(), Fail> {
 fn parts(rt: &impl Abort, index: usize, front: &[&[u8]], back: &[&[u8]]) -> Result<(), Fail> {
     let mut pack = packed(&[b"a", b"12", b"c"]);
     match pack.split_off(index) {
-        Some(parted) => has(rt, &parted, back)?,
-        None => return Err(Fail::new("not parted")),
+        Ok(parted) => has(rt, &parted, back)?,
+        Err(_) => return Err(Fail::new("not parted")),
     }
     has(rt, &pack, front)
 }
@@ -80,7 +80,7 @@ fn split_off(rt: HostRuntime) -> Result<(), Fail> {
     parts(&rt, 1, &[b"a"], &[b"12", b"c"])?;
     parts(&rt, 3, &[b"a", b"12", b"c"], &[])?;
     let mut pack = packed(&[b"a"]);
-    assert!(rt; pack.split_off(2).is_none());
+    assert!(rt; pack.split_off(2).is_err());
     has(&rt, &pack, &[b"a"])
 }
 

@@ -97,12 +97,12 @@ pub fn read_value(bytes: &[u8], depth: usize) -> Result<Found<'_>, Stop>
     let Some((mark, rest)) = first(bytes) else {
         return Err(Stop::Short);
     };
-    match mark {
-        b'+' => read_text(rest, Value::Text),
-        b'-' => read_text(rest, Value::Error),
-        b':' => read_integer(rest),
-        b'$' => read_bulk(rest),
-        b'*' if depth > 0 => read_array(rest, depth - 1),
+    match mark as char {
+        '+' => read_text(rest, Value::Text),
+        '-' => read_text(rest, Value::Error),
+        ':' => read_integer(rest),
+        '$' => read_bulk(rest),
+        '*' if depth > 0 => read_array(rest, depth - 1),
         _ => Err(Stop::At(bytes.len())),
     }
 }

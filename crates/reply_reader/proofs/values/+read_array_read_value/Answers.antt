@@ -6,7 +6,7 @@ use Rattle.wire.proofs.Sets.{front, back}
 use Rattle.reply_reader.proofs.Marks.{marked, none_yet, other_mark, array_mark, came_text, came_error}
 use Rattle.reply_reader.proofs.Rows.{Sofar, none_passed, stuck, one_more, front_array, back_array, no_longer, all_passed}
 use Rattle.reply_reader.proofs.values.+read_array_read_value.Goals as goal
-use Rattle.reply_reader.proofs.values.+read_array_read_value.Goals.{read_value-in_default-mark-via-in-42+else-depth-gt0, read_value-in_default-mark-via-in_default-1}
+use Rattle.reply_reader.proofs.values.+read_array_read_value.Goals.{read_value-in_default-2-via-in-42+else-depth-gt0, read_value-in_default-2-via-in_default-1}
 
 pub read_array-returns-in_err-size : goal.read_array-returns-in_err-size
 read_array-returns-in_err-size t c =
@@ -65,14 +65,14 @@ read_value-returns-in-42 t c =
     let less : suc (c.args.depth - 1) ≡ c.args.depth = omega arith in
     marked c.args.depth 42 c.in-Some.mark _ _ c.read_array.result c.in-Some.ensures c.in-42.is (subst (λ d. Came 42 d c.in-Some.rest.now c.read_array.result) less c.read_array.ensures)
 
-pub read_value-returns-in_default-mark : goal.read_value-returns-in_default-mark
-read_value-returns-in_default-mark t c =
+pub read_value-returns-in_default-2 : goal.read_value-returns-in_default-2
+read_value-returns-in_default-2 t c =
     let d = c.args.depth in
     let mark = c.in-Some.mark in
     let s = c.args.bytes.now in
     let rest = c.in-Some.rest.now in
-    elim c.in_default-mark.branch [
-      | read_value-in_default-mark-via-in-42+else-depth-gt0 w ↦ array_mark d mark s rest c.in-Some.ensures (omega arith) w.in-42.is
-      | read_value-in_default-mark-via-in_default-1 w ↦
+    elim c.in_default-2.branch [
+      | read_value-in_default-2-via-in-42+else-depth-gt0 w ↦ array_mark d mark s rest c.in-Some.ensures (omega arith) w.in-42.is
+      | read_value-in_default-2-via-in_default-1 w ↦
           other_mark d mark s rest c.in-Some.ensures (λ e. omega arith) (λ e. omega arith) (λ e. omega arith) (λ e. omega arith) (λ e. omega arith)
     ]
