@@ -2,7 +2,7 @@
 // with which status; a link worker takes names in order, the store fills up, and what is left is listed. Each step is a sentence.
 use std::alloc::AllocError;
 use std::fmt::Write;
-use store::{LONGEST_KEY, LONGEST_VALUE, ListEnds, Refusal, Side, WholeLists};
+use store::{LONGEST_VALUE, ListEnds, Refusal, Side, WholeLists, keys, values};
 
 fn text(bytes: &[u8]) -> &str {
     std::str::from_utf8(bytes).unwrap_or("(no text)")
@@ -71,22 +71,16 @@ fn put_first<S: WholeLists>(
 fn tell_list<S: WholeLists>(day: &mut String, store: &S, key: &[u8]) -> Result<(), AllocError> {
     let list = text(key);
     write!(day, "Left on {list}:")?;
-    let mut out = [0; LONGEST_VALUE];
-    for i in 0..store.len(key) {
-        if let Some(n) = store.value_at(key, i, &mut out) {
-            let value = text(&out[0..n]);
-            write!(day, " {value}")?;
-        }
+    for value in values(store, key) {
+        let value = text(value.as_bytes());
+        write!(day, " {value}")?;
     }
     writeln!(day, ".")
 }
 
 fn tell<S: WholeLists>(day: &mut String, store: &S) -> Result<(), AllocError> {
-    let mut key = [0; LONGEST_KEY];
-    for rank in 0..store.held() {
-        if let Some(n) = store.key_at(rank, &mut key) {
-            tell_list(day, store, &key[0..n])?;
-        }
+    for key in keys(store) {
+        tell_list(day, store, key.as_bytes())?;
     }
     let held = store.held();
     writeln!(day, "The store holds {held} in all.")

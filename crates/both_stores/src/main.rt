@@ -58,10 +58,11 @@ fn line(day: &str, i: usize) -> &str {
 
 // Says where the stores do not tell the same.
 fn show_differences(rt: &HostRuntime, flat: &str, quicklist: &str) -> io::Result<()> {
+    // Kept: `zip` over both, each with `repeat` behind it, was tried, and the goal that this chain ends stayed open.
     for i in 0..flat.lines().count().max(quicklist.lines().count()) {
         let one = line(flat, i);
         let other = line(quicklist, i);
-        if one.as_bytes() != other.as_bytes() {
+        if one != other {
             println!(rt; "The flat store says: {one} The quicklist says: {other}")?;
         }
     }
@@ -69,7 +70,7 @@ fn show_differences(rt: &HostRuntime, flat: &str, quicklist: &str) -> io::Result
 }
 
 fn compare(rt: &HostRuntime, flat: &str, quicklist: &str) -> io::Result<()> {
-    if flat.as_bytes() == quicklist.as_bytes() {
+    if flat == quicklist {
         let lines = flat.lines().count();
         return println!(rt;
             "The same day on a quicklist has the same {lines} sentences: the two stores agree.\n"

@@ -52,7 +52,7 @@ fn show_entry(rt: &HostRuntime, bytes: &[u8], value: &[u8]) -> io::Result<()> {
 fn show_entries(rt: &HostRuntime, entries: &[u8], count: usize) -> io::Result<()> {
     let mut rest = entries;
     let mut out = [0; LONGEST_VALUE];
-    for _i in 0..count {
+    for _ in 0..count {
         if let Some((n, span)) = decode(rest, &mut out) {
             show_entry(rt, &rest[0..span], &out[0..n])?;
             rest = &rest[span..];
@@ -90,10 +90,10 @@ pub(crate) fn show_first(
     lists: &[ListRecord],
     list: &str,
 ) -> io::Result<()> {
-    let number = match find(lists, list.as_bytes()) {
-        Some(e) => lists[e].first as usize,
-        None => 0,
+    let Some(place) = find(lists, list.as_bytes()) else {
+        return println!(rt; "The quicklist has no list {list}.");
     };
+    let number = lists[place].first as usize;
     if number == 0 || number > nodes.len() {
         return println!(rt; "The quicklist has no list {list}.");
     }

@@ -4,7 +4,7 @@
 
 use flat::{Record, prepare};
 use std::io;
-use store::{LONGEST_KEY, LONGEST_VALUE, ListEnds, Side, WholeLists};
+use store::{LONGEST_VALUE, ListEnds, Side, WholeLists, keys, values};
 
 fn text(bytes: &[u8]) -> &str {
     std::str::from_utf8(bytes).unwrap_or("(no text)")
@@ -58,22 +58,16 @@ fn put_first<S: WholeLists>(
 fn show_list<S: WholeLists>(rt: &HostRuntime, store: &S, key: &[u8]) -> io::Result<()> {
     let list = text(key);
     print!(rt; "Left on {list}:")?;
-    let mut out = [0; LONGEST_VALUE];
-    for i in 0..store.len(key) {
-        if let Some(n) = store.value_at(key, i, &mut out) {
-            let name = text(&out[0..n]);
-            print!(rt; " {name}")?;
-        }
+    for value in values(store, key) {
+        let name = text(value.as_bytes());
+        print!(rt; " {name}")?;
     }
     println!(rt; ".")
 }
 
 fn show<S: WholeLists>(rt: &HostRuntime, store: &S) -> io::Result<()> {
-    let mut key = [0; LONGEST_KEY];
-    for rank in 0..store.held() {
-        if let Some(n) = store.key_at(rank, &mut key) {
-            show_list(rt, store, &key[0..n])?;
-        }
+    for key in keys(store) {
+        show_list(rt, store, key.as_bytes())?;
     }
     let held = store.held();
     println!(rt; "The store holds {held} in all.")

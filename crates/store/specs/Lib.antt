@@ -2,3 +2,4 @@ pub mod Limits
 pub mod Lists
 pub mod Answers
 pub mod Rows
+pub mod Walks

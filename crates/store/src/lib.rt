@@ -11,11 +11,13 @@ ghost use Rattle.store.specs.Answers.{place, Copied, Pushed, Popped, WasSet, Ins
 
 mod questions;
 mod refusal;
+mod walks;
 
 use order::ShortBytes;
 pub use order::{KeyRow, LONGEST_KEY};
 pub use questions::{ask_insert, ask_remove, ask_rows, ask_set, is_full, room_left};
 pub use refusal::{Refusal, Unfit};
+pub use walks::{KeysOf, ValuesOf, keys, values};
 
 // The most bytes that a value has.
 pub const LONGEST_VALUE: usize = 64;
@@ -51,9 +53,6 @@ pub trait ListEnds {
 
     ghost lists: { Self → Lists };
 
-    // What holds of them in every state.
-    ghost laws: { (s : Self) → StoreLaws (room s) (lists s) };
-
     // How many elements fit in all.
     fn capacity(&self) -> usize
         ensures { result ≡ room self.now };
@@ -83,6 +82,9 @@ pub trait ListEnds {
     // Copies the key at a rank, in ascending order, to the beginning of `out`, and tells its length; none past the last key.
     fn key_at(&self, rank: usize, out: &mut [u8; LONGEST_KEY]) -> Option<usize>
         ensures { Copied longest_key (keys_of (lists self.now)) rank out.old out.new result };
+
+    // What holds of the capacity and the lists in every state.
+    ghost laws: { (s : Self) → StoreLaws (room s) (lists s) };
 }
 
 // A list store whose lists can be changed at any index.
