@@ -11,7 +11,7 @@ use Rattle.records.specs.declared.record.ListRecord.{ListRecord}
 use Rattle.records.specs.Records.{first_at}
 use Rattle.quicklist.specs.declared.table.Node.{Node}
 use Rattle.quicklist.specs.declared.table.Tables.{Tables}
-use Rattle.quicklist.specs.Tables.{next_in, prev_in, values_at, last_at, next_list, used, room, nodes_of, Downward, Threaded, Whole}
+use Rattle.quicklist.specs.Tables.{next_in, prev_in, values_at, last_at, next_list, used, links, room, nodes_of, Downward, Threaded, Whole}
 use Rattle.quicklist.proofs.Writes.{wrote_here, wrote_else}
 use Rattle.quicklist.proofs.Records.{field_here, field_else}
 use Rattle.quicklist.proofs.Wholes.{used_is_none}
@@ -38,40 +38,49 @@ threaded_more hs i r h l a b c d k o = ⊎_elim
     })
     (cases_eq k i)
 
-module _ (T : Tables) (down : (k : ℕ) → k < room T → Downward T.nodes.now k) (free : (k : ℕ) → k < length T.lists.now → Threaded T.lists.now k)
-    (same : length T.lists.now ≡ room T) (some : 1 ≤ room T) (few : room T ≤ largest_store) (node : T.free_node ≡ room T) (list : T.free_list ≡ room T) (none : T.held ≡ 0) where
+module _ (xs : List Node) (hs : List ListRecord) (down : (k : ℕ) → k < length xs → Downward xs k) (free : (k : ℕ) → k < length hs → Threaded hs k) (same : length hs ≡ length xs) where
   -- a number read at any place, past the end too
-  zero_at : (f : ListRecord → ℕ) → ((k : ℕ) → k < length T.lists.now → get_or (map f T.lists.now) k 0 ≡ 0) → (k : ℕ) → get_or (map f T.lists.now) k 0 ≡ 0
-  zero_at f h k = ⊎_elim (h k) (λ l. get_or_past (map f T.lists.now) k 0 (omega (arith, l, length-map T.lists.now f))) (cases_lt k (length T.lists.now))
+  zero_at : (f : ListRecord → ℕ) → ((k : ℕ) → k < length hs → get_or (map f hs) k 0 ≡ 0) → (k : ℕ) → get_or (map f hs) k 0 ≡ 0
+  zero_at f h k = ⊎_elim (h k) (λ l. get_or_past (map f hs) k 0 (omega (arith, l, length-map hs f))) (cases_lt k (length hs))
 
-  first_zero : (e : ℕ) → first_at T.lists.now e ≡ 0
+  first_zero : (e : ℕ) → first_at hs e ≡ 0
   first_zero = zero_at (λ r. r.first) (λ k l. (free k l).first)
 
-  last_zero : (e : ℕ) → last_at T.lists.now e ≡ 0
+  last_zero : (e : ℕ) → last_at hs e ≡ 0
   last_zero = zero_at (λ r. r.last) (λ k l. (free k l).last)
 
+  leads : (k : ℕ) → k < length xs → next_in xs (suc k) ≡ k
+  leads k l = let q : suc k - 1 ≡ k = omega arith in ap (λ i. get_or (map (λ (x : Node). x.next) xs) i 0) q ∙ down k l
+
+  pub cleared_linked : Sound (length xs) (links xs hs (length xs))
+  cleared_linked = cleared (length xs) (next_in xs) leads (prev_in xs) (first_at hs) (last_at hs) first_zero last_zero
+
+module _ (T : Tables) (down : (k : ℕ) → k < room T → Downward T.nodes.now k) (free : (k : ℕ) → k < length T.lists.now → Threaded T.lists.now k)
+    (some : 1 ≤ room T) (few : room T ≤ largest_store) (list : T.free_list ≡ room T) (none : T.held ≡ 0) where
+  firsts : (e : ℕ) → first_at T.lists.now e ≡ 0
+  firsts = first_zero T.nodes.now T.lists.now down free T.same
+
   nodes_none : (e : ℕ) → nodes_of T e ≡ []
-  nodes_none e = ap (map (values_at T.nodes.now)) (chain_none (next_in T.nodes.now) (room T) (first_at T.lists.now e) (first_zero e))
+  nodes_none e = ap (map (values_at T.nodes.now)) (chain_none (next_in T.nodes.now) (room T) (first_at T.lists.now e) (firsts e))
 
   used_zero : (n : ℕ) → used T.lists.now n ≡ 0
   used_zero zero = refl
-  used_zero (suc e) = used_is_none (first_at T.lists.now e) (first_zero e)
-
-  leads : (k : ℕ) → k < room T → next_in T.nodes.now (suc k) ≡ k
-  leads k l = let q : suc k - 1 ≡ k = omega arith in ap (λ i. get_or (map (λ (x : Node). x.next) T.nodes.now) i 0) q ∙ down k l
+  used_zero (suc e) = used_is_none (first_at T.lists.now e) (firsts e)
 
   leads_list : (k : ℕ) → k < room T → next_list T.lists.now (suc k) ≡ k
-  leads_list k l = let q : suc k - 1 ≡ k = omega arith in ap (λ i. get_or (map (λ (r : ListRecord). r.next) T.lists.now) i 0) q ∙ (free k (omega arith)).next
+  leads_list k l =
+      let same = T.same in
+      let q : suc k - 1 ≡ k = omega arith in
+      ap (λ i. get_or (map (λ (r : ListRecord). r.next) T.lists.now) i 0) q ∙ (free k (omega arith)).next
 
   pub cleared_whole : Whole T
   cleared_whole = record {
-    sized = (same, some, few);
+    sized = (T.same, some, few);
     within = omega arith;
-    linked = subst (λ m. Sound (room T) (record { next = next_in T.nodes.now; prev = prev_in T.nodes.now; first = first_at T.lists.now; last = last_at T.lists.now; free = m })) (sym node)
-        (cleared (room T) (next_in T.nodes.now) leads (prev_in T.nodes.now) (first_at T.lists.now) (last_at T.lists.now) first_zero last_zero);
+    linked = T.linked;
     pooled = subst (Pool (room T) (next_list T.lists.now) (used T.lists.now)) (sym list) (cleared_pool (room T) (next_list T.lists.now) leads_list (used T.lists.now) used_zero);
     loaded = λ e i l h. absurd (omega (arith, h, ap length (nodes_none e)));
-    counted = λ e l. (free e (omega arith)).count ∙ sym (ap (λ ns. length (flat ns)) (nodes_none e));
+    counted = λ e l. let same = T.same in (free e (omega arith)).count ∙ sym (ap (λ ns. length (flat ns)) (nodes_none e));
     totalled = none ∙ sym (sum_zero (λ e. length (flat (nodes_of T e))) (room T) (λ e. ap (λ ns. length (flat ns)) (nodes_none e)));
     named = λ e i h. omega (arith, h.3, ap length (nodes_none e));
   }

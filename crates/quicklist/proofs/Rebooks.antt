@@ -81,7 +81,7 @@ restated T T₁ e ns w l was re sound filled same some =
     rebooked T T₁ T₁ e k c next ns w l re sound wr filled (re.counts e ∙ w.counted e l ∙ sym same) T₁.free_list T₁.held
     (omega (arith, re.total, same)) (omega (arith, re.total, w.within)) (λ i b ne h q. w.named e i (l, b, ne, was, h, q))
     (subst (Pool (room T) (next_list T₁.lists.now) (used T₁.lists.now)) (sym re.free)
-    (pool_kept T T₁ T₁ e k c next ns w l re sound wr was (some_node ns some) (re.nexts (suc e))))
+    (pool_kept T T₁ T₁ e k c next ns w l re sound wr was (some_node ns some) (re.nexts (suc e)))) T₁.same T₁.linked
 
 -- ---- a value written over
 

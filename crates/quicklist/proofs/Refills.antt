@@ -14,6 +14,7 @@ use Rattle.links.proofs.Tables.{once, within, apart}
 use Rattle.records.specs.Records.{key_at, first_at}
 use Rattle.quicklist.specs.declared.table.Tables.{Tables}
 use Rattle.quicklist.specs.Tables.{values_at, count_at, next_list, room, links, links_of, numbers, nodes_of, Refilled, Relisted}
+use Rattle.quicklist.proofs.Writes.{repacked, repacked_long, repacked_refills}
 use Rattle.quicklist.proofs.Splices.{holds}
 
 -- ---- what a node tells
@@ -118,6 +119,16 @@ module _ (T : Tables) (e n : ℕ) (ys : List Node) (vs : List Value) (sound : So
       nodes = r.nodes ∙ ap length ys-is ∙ len;
       lists = r.lists ∙ ap length lists;
     }
+
+-- the tables after one node's listpack was written over
+module _ (T : Tables) (e n : ℕ) (l : e < room T) (there : 0 < tally n (numbers T e)) (d : Node) (p : Listpack) where
+  pub repack_same : length T.lists.now ≡ length (repacked T.nodes.now n d p)
+  repack_same = T.same ∙ sym (repacked_long T.nodes.now n d p)
+
+  pub repack_linked : Sound (length (repacked T.nodes.now n d p)) (links (repacked T.nodes.now n d p) T.lists.now T.free_node)
+  repack_linked =
+      let w = within (room T) (links_of T) T.linked e n l (omega (arith, there)) in
+      refill_sound T e n _ _ T.linked l there (repacked_refills T.nodes.now n d p (values_in p) w.0 w.1 refl) (repacked_long T.nodes.now n d p)
 
 -- ---- a value more in a node
 

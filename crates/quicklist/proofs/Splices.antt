@@ -1,22 +1,23 @@
 -- A node is put into a list, or taken out.
 use Rattle.std.proofs.Common.{◌≡◌, ℕ, ◌+◌, ◌-◌, ◌<◌, ◌≤◌, ◌≢◌, List, [], ◌∷◌, ◌++◌, map, length, get_or, set, sym, refl, ap, ◌∙◌, subst, ⊎_elim, append_assoc, arith, length-set}
 use Rattle.std.proofs.Math.Path.{transport}
-use Rattle.std.proofs.Math.Seq.{map-set_same}
 use Rattle.std.proofs.lemmas.List.{map-append}
 use Rattle.std.proofs.lemmas.Bool.{cases_eq}
 use Rattle.order.specs.Keys.{key_in}
+use Rattle.store.specs.Lists.{Value}
 use Rattle.nodes.specs.Nodes.{Nodes}
+use Rattle.listpack.specs.declared.pack.Listpack.{Listpack}
 use Rattle.listpack.specs.Packs.{values_in}
-use Rattle.links.specs.Links.{from, tally, last_or, Links, listed, spare, Sound, Tied, Led}
+use Rattle.links.specs.Links.{from, tally, last_or, Links, listed, spare, Sound, Tied}
 use Rattle.links.proofs.Paths.{one_same, one_other, tally_append, last_push, map_frame}
 use Rattle.links.proofs.Tables.{split, once, within, apart, Change, changed_here, changed_else, changed_sound, spare_split, in_next, in_free, in_left, in_right, placed, out_in, out_prev_in, out_next_in, taken}
 use Rattle.records.specs.declared.record.ListRecord.{ListRecord}
 use Rattle.records.specs.Records.{key_at, first_at}
 use Rattle.quicklist.specs.declared.table.Node.{Node}
 use Rattle.quicklist.specs.declared.table.Tables.{Tables}
-use Rattle.quicklist.specs.Tables.{next_in, prev_in, values_at, last_at, count_at, next_list, room, links, links_of, numbers, nodes_of, Joined, Relisted}
+use Rattle.quicklist.specs.Tables.{next_in, prev_in, values_at, last_at, count_at, next_list, room, links, links_of, numbers, nodes_of, Joined, Refilled, Relisted}
+use Rattle.quicklist.specs.Chains.{SplicedIn, SplicedOut}
 use Rattle.quicklist.proofs.Records.{field_read, field_here, field_else, field_same}
-use Rattle.quicklist.proofs.Writes.{read, wrote_here, wrote_else, wrote_same}
 
 -- ---- nodes by their lists
 
@@ -64,10 +65,9 @@ module _ (xs : List Node) (hs : List ListRecord) (free e p : ℕ) (sound : Sound
             (in_right (length xs) (links xs hs free) sound more e l a.0 a.1 a.2);
       }
 
-  module _ (x d : Node) (ys zs : List Node) (first last first' last' q rest : ℕ) (r : ListRecord)
-      (x-next : x.next ≡ (get_or xs (free - 1) d).next) (x-prev : x.prev ≡ (get_or xs (free - 1) d).prev)
+  module _ (vs : List Value) (ws ys zs : List Node) (first last first' last' q rest : ℕ) (r : ListRecord) (filled : Refilled xs ws free vs)
       (is-q : q ≡ from (first_at hs e) (next_in xs) p) (is-rest : rest ≡ next_in xs free)
-      (tied : Joined (set xs (free - 1) x) (first_at hs e) (last_at hs e) ys first last p free) (again : Joined ys first last zs first' last' free q)
+      (tied : Joined ws (first_at hs e) (last_at hs e) ys first last p free) (again : Joined ys first last zs first' last' free q)
       (r-first : r.first ≡ first') (r_last : r.last ≡ last') (len : length zs ≡ length xs) where
     abbrev s : Links
     s = links xs hs free
@@ -78,15 +78,6 @@ module _ (xs : List Node) (hs : List ListRecord) (free e p : ℕ) (sound : Sound
     e_in : e < length hs
     e_in = omega (arith, same)
 
-    abbrev ws : List Node
-    ws = set xs (free - 1) x
-
-    next_same : next_in ws ≡ next_in xs
-    next_same = ap (λ ms n. get_or ms (n - 1) 0) (map-set_same (λ (y : Node). y.next) xs (free - 1) x d x-next)
-
-    prev_same : prev_in ws ≡ prev_in xs
-    prev_same = ap (λ ms n. get_or ms (n - 1) 0) (map-set_same (λ (y : Node). y.prev) xs (free - 1) x d x-prev)
-
     first_new : first_at (set hs e r) e ≡ first'
     first_new = field_here (λ (y : ListRecord). y.first) hs e 0 r e_in ∙ r-first
 
@@ -94,8 +85,8 @@ module _ (xs : List Node) (hs : List ListRecord) (free e p : ℕ) (sound : Sound
     last_new = field_here (λ (y : ListRecord). y.last) hs e 0 r e_in ∙ r_last
 
     tied' : Tied (next_in xs) (prev_in xs) (first_at hs e) (last_at hs e) (next_in ys) (prev_in ys) first last p free
-    tied' = subst (λ f. Tied f (prev_in xs) (first_at hs e) (last_at hs e) (next_in ys) (prev_in ys) first last p free) next_same
-        (subst (λ g. Tied (next_in ws) g (first_at hs e) (last_at hs e) (next_in ys) (prev_in ys) first last p free) prev_same tied.tied)
+    tied' = subst (λ f. Tied f (prev_in xs) (first_at hs e) (last_at hs e) (next_in ys) (prev_in ys) first last p free) filled.nexts
+        (subst (λ g. Tied (next_in ws) g (first_at hs e) (last_at hs e) (next_in ys) (prev_in ys) first last p free) filled.prevs tied.tied)
 
     again' : Tied (next_in ys) (prev_in ys) first last (next_in zs) (prev_in zs) (first_at (set hs e r) e) (last_at (set hs e r) e) free q
     again' = subst (λ a. Tied (next_in ys) (prev_in ys) first last (next_in zs) (prev_in zs) a (last_at (set hs e r) e) free q) (sym first_new)
@@ -115,16 +106,16 @@ module _ (xs : List Node) (hs : List ListRecord) (free e p : ℕ) (sound : Sound
           omega (arith, once (length xs) s sound e free l, ap (tally free) is, ap (tally free) (spare_split (length xs) s sound more).1, one_same free)
 
       values_same : (m : ℕ) → 0 < m → m ≢ free → values_at zs m ≡ values_at xs m
-      values_same m o ne = again.packs m ∙ tied.packs m ∙ wrote_else (λ (y : Node). values_in y.pack) xs (free - 1) x [] (m - 1) (λ z. ne (omega arith))
+      values_same m o ne = again.packs m ∙ tied.packs m ∙ filled.else m o ne
 
-      values_new : values_at zs free ≡ values_in x.pack
-      values_new = again.packs free ∙ tied.packs free ∙ wrote_here (λ (y : Node). values_in y.pack) xs (free - 1) x [] (omega (arith, has_room.free_in))
+      values_new : values_at zs free ≡ vs
+      values_new = again.packs free ∙ tied.packs free ∙ filled.here
 
       frame : (ms : List ℕ) → ((m : ℕ) → 0 < tally m ms → 0 < tally m (ls ++ rs)) → map (values_at zs) ms ≡ map (values_at xs) ms
       frame ms h = map_frame (values_at xs) (values_at zs) ms
           (λ m i. values_same m (within (length xs) s sound e m l (omega (arith, h m i, ap (tally m) is))).0 (free_apart m (h m i)))
 
-      pub opened_here : holds zs t e ≡ map (values_at xs) ls ++ values_in x.pack ∷ map (values_at xs) rs
+      pub opened_here : holds zs t e ≡ map (values_at xs) ls ++ vs ∷ map (values_at xs) rs
       opened_here =
           holds_here xs zs len s t e sound l (ls ++ free ∷ rs) (spare_split (length xs) s sound more).0 change
           ∙ map-append (values_at zs) ls (free ∷ rs)
@@ -155,37 +146,41 @@ relisted T T' e r d ns is name count next free held len here else = record {
   lists = ap length is ∙ length-set T.lists.now e r;
 }
 
--- the tables after an opening, by what was written: the node x, both ties, the record r
-module _ (T : Tables) (e p q first last : ℕ) (x d : Node) (ys zs : List Node) (r b : ListRecord) (rest : ℕ)
-    (sound : Sound (room T) (links_of T)) (same : length T.lists.now ≡ room T) (l : e < room T) (more : 0 < T.free_node) (there : 0 < tally p (0 ∷ numbers T e))
-    (x-next : x.next ≡ (get_or T.nodes.now (T.free_node - 1) d).next) (x-prev : x.prev ≡ (get_or T.nodes.now (T.free_node - 1) d).prev)
-    (is-q : q ≡ from (first_at T.lists.now e) (next_in T.nodes.now) p) (is-rest : rest ≡ next_in T.nodes.now T.free_node)
-    (tied : Joined (set T.nodes.now (T.free_node - 1) x) (get_or T.lists.now e b).first (get_or T.lists.now e b).last ys first last p T.free_node)
-    (again : Joined ys first last zs r.first r.last T.free_node q) (len : length zs ≡ room T) where
-  opened_tied : Joined (set T.nodes.now (T.free_node - 1) x) (first_at T.lists.now e) (last_at T.lists.now e) ys first last p T.free_node
+-- the tables after an opening
+module _ (T : Tables) (e p : ℕ) (l : e < room T) (more : 0 < T.free_node) (there : 0 < tally p (0 ∷ numbers T e)) (zs : List Node) (r b : ListRecord) (rest : ℕ) (pack : Listpack)
+    (spliced : SplicedIn T.nodes.now (get_or T.lists.now e b) T.free_node zs r rest p pack) (len : length zs ≡ room T) where
+  first_old : (get_or T.lists.now e b).first ≡ first_at T.lists.now e
+  first_old = let same = T.same in field_read (λ (y : ListRecord). y.first) T.lists.now e 0 b (omega arith)
+
+  opened_tied : Joined spliced.before (first_at T.lists.now e) (last_at T.lists.now e) spliced.between spliced.first spliced.last p T.free_node
   opened_tied =
-      subst (λ a. Joined (set T.nodes.now (T.free_node - 1) x) a (last_at T.lists.now e) ys first last p T.free_node) (field_read (λ (y : ListRecord). y.first) T.lists.now e 0 b (omega arith))
-      (subst (λ a. Joined (set T.nodes.now (T.free_node - 1) x) (get_or T.lists.now e b).first a ys first last p T.free_node) (field_read (λ (y : ListRecord). y.last) T.lists.now e 0 b (omega arith)) tied)
+      let same = T.same in
+      subst (λ a. Joined spliced.before a (last_at T.lists.now e) spliced.between spliced.first spliced.last p T.free_node) first_old
+      (subst (λ a. Joined spliced.before (get_or T.lists.now e b).first a spliced.between spliced.first spliced.last p T.free_node) (field_read (λ (y : ListRecord). y.last) T.lists.now e 0 b (omega arith)) spliced.tied)
+
+  is-q : from (get_or T.lists.now e b).first (next_in T.nodes.now) p ≡ from (first_at T.lists.now e) (next_in T.nodes.now) p
+  is-q = ap (λ a. from a (next_in T.nodes.now) p) first_old
 
   pub open_sound : Sound (length zs) (links zs (set T.lists.now e r) rest)
   open_sound =
       let a = split_after p (numbers T e) there in
-      opened_sound T.nodes.now T.lists.now T.free_node e p sound same l more there x d ys zs first last r.first r.last q rest r x-next x-prev is-q is-rest opened_tied again refl refl len a.0 a.1 a.2 a.3
+      opened_sound T.nodes.now T.lists.now T.free_node e p T.linked T.same l more there (values_in pack) spliced.before spliced.between zs spliced.first spliced.last r.first r.last _ rest r
+      spliced.filled is-q spliced.rest opened_tied spliced.again refl refl len a.0 a.1 a.2 a.3
 
-  pub open_nodes : (T' : Tables) → T'.nodes.now ≡ zs → T'.lists.now ≡ set T.lists.now e r → T'.free_node ≡ rest
-      → r.name ≡ (get_or T.lists.now e b).name → r.count ≡ (get_or T.lists.now e b).count → r.next ≡ (get_or T.lists.now e b).next
-      → T'.free_list ≡ T.free_list → T'.held ≡ T.held
-      → (ls rs : List ℕ) → numbers T e ≡ ls ++ rs → p ≡ last_or 0 ls → Relisted T T' e (map (values_at T.nodes.now) ls ++ values_in x.pack ∷ map (values_at T.nodes.now) rs)
-  open_nodes T' zs-is is rest-is name count next free held ls rs u v =
-      relisted T T' e r b _ is name count next free held (ap length zs-is ∙ len)
+  pub open_nodes : (T' : Tables) → T'.nodes.now ≡ zs → T'.lists.now ≡ set T.lists.now e r → T'.free_node ≡ rest → T'.free_list ≡ T.free_list → T'.held ≡ T.held
+      → (ls rs : List ℕ) → numbers T e ≡ ls ++ rs → p ≡ last_or 0 ls → Relisted T T' e (map (values_at T.nodes.now) ls ++ values_in pack ∷ map (values_at T.nodes.now) rs)
+  open_nodes T' zs-is is rest-is free held ls rs u v =
+      relisted T T' e r b _ is spliced.same.0 spliced.same.1 spliced.same.2 free held (ap length zs-is ∙ len)
       ((λ j. holds (zs-is j) (links (zs-is j) (is j) (rest-is j)) e)
-      ∙ opened_here T.nodes.now T.lists.now T.free_node e p sound same l more there x d ys zs first last r.first r.last q rest r x-next x-prev is-q is-rest opened_tied again refl refl len ls rs u v)
+      ∙ opened_here T.nodes.now T.lists.now T.free_node e p T.linked T.same l more there (values_in pack) spliced.before spliced.between zs spliced.first spliced.last r.first r.last _ rest r
+      spliced.filled is-q spliced.rest opened_tied spliced.again refl refl len ls rs u v)
       (λ i k ne. (λ j. holds (zs-is j) (links (zs-is j) (is j) (rest-is j)) i)
-      ∙ opened_else T.nodes.now T.lists.now T.free_node e p sound same l more there x d ys zs first last r.first r.last q rest r x-next x-prev is-q is-rest opened_tied again refl refl len ls rs u v i k ne)
+      ∙ opened_else T.nodes.now T.lists.now T.free_node e p T.linked T.same l more there (values_in pack) spliced.before spliced.between zs spliced.first spliced.last r.first r.last _ rest r
+      spliced.filled is-q spliced.rest opened_tied spliced.again refl refl len ls rs u v i k ne)
 
 -- ---- a node is taken out
 
-module _ (T : Tables) (e n : ℕ) (sound : Sound (room T) (links_of T)) (same : length T.lists.now ≡ room T) (l : e < room T) (there : 0 < tally n (numbers T e)) where
+module _ (T : Tables) (e n : ℕ) (l : e < room T) (there : 0 < tally n (numbers T e)) where
   pub record Inside : Type 0 where
     pub some : 0 < n
     pub within : n ≤ room T
@@ -195,72 +190,55 @@ module _ (T : Tables) (e n : ℕ) (sound : Sound (room T) (links_of T)) (same : 
   pub inside : Inside
   inside =
       let a = split n (numbers T e) there in
-      let w = out_in (room T) (links_of T) sound e l a.0 n a.1 a.2 in
+      let w = out_in (room T) (links_of T) T.linked e l a.0 n a.1 a.2 in
       record {
         some = w.0;
         within = w.1;
-        prev = out_prev_in (room T) (links_of T) sound e l a.0 n a.1 a.2;
-        next = out_next_in (room T) (links_of T) sound e l a.0 n a.1 a.2;
+        prev = out_prev_in (room T) (links_of T) T.linked e l a.0 n a.1 a.2;
+        next = out_next_in (room T) (links_of T) T.linked e l a.0 n a.1 a.2;
       }
 
-  -- the tables after it, by what was written: the tie, the node x, the record r
-  module _ (x c d d' : Node) (ys : List Node) (r b : ListRecord)
-      (tied : Joined T.nodes.now (get_or T.lists.now e b).first (get_or T.lists.now e b).last ys r.first r.last (get_or T.nodes.now (n - 1) d).prev (get_or T.nodes.now (n - 1) d').next)
-      (x-next : x.next ≡ T.free_node) (x-prev : x.prev ≡ (get_or ys (n - 1) c).prev) (x-pack : x.pack ≡ (get_or ys (n - 1) c).pack) (len : length ys ≡ room T) where
-    abbrev zs : List Node
-    zs = set ys (n - 1) x
+  -- the tables after it
+  module _ (zs : List Node) (r b : ListRecord) (free : ℕ) (spliced : SplicedOut T.nodes.now (get_or T.lists.now e b) T.free_node zs r free n) (long : length zs ≡ room T) where
+    abbrev ys : List Node
+    ys = spliced.between
 
     abbrev u : Links
     u = links zs (set T.lists.now e r) n
 
-    long : length zs ≡ room T
-    long = length-set ys (n - 1) x ∙ len
-
-    n_in : n - 1 < room T
-    n_in = omega (arith, inside.some, inside.within)
-
     closed_tied : Tied (next_in T.nodes.now) (prev_in T.nodes.now) (first_at T.lists.now e) (last_at T.lists.now e) (next_in ys) (prev_in zs)
         (first_at (set T.lists.now e r) e) (last_at (set T.lists.now e r) e) (prev_in T.nodes.now n) (next_in T.nodes.now n)
     closed_tied =
+        let same = T.same in
         let f = field_read (λ (y : ListRecord). y.first) T.lists.now e 0 b (omega arith) in
         let g = field_read (λ (y : ListRecord). y.last) T.lists.now e 0 b (omega arith) in
         let f' : r.first ≡ first_at (set T.lists.now e r) e = sym (field_here (λ (y : ListRecord). y.first) T.lists.now e 0 r (omega arith)) in
         let g' : r.last ≡ last_at (set T.lists.now e r) e = sym (field_here (λ (y : ListRecord). y.last) T.lists.now e 0 r (omega arith)) in
-        let p = read (λ (y : Node). y.prev) T.nodes.now (n - 1) d 0 n_in in
-        let q = read (λ (y : Node). y.next) T.nodes.now (n - 1) d' 0 n_in in
-        let w : prev_in ys ≡ prev_in zs = ap (λ ms k. get_or ms (k - 1) 0) (sym (map-set_same (λ (y : Node). y.prev) ys (n - 1) x c x-prev)) in
-        transport (λ j. Tied (next_in T.nodes.now) (prev_in T.nodes.now) (f j) (g j) (next_in ys) (w j) (f' j) (g' j) (p j) (q j)) tied.tied
-
-    closed_led : Led (next_in ys) (next_in zs) n T.free_node
-    closed_led = record {
-      here = wrote_here (λ (y : Node). y.next) ys (n - 1) x 0 (omega (arith, n_in, len)) ∙ x-next;
-      else = λ m o ne. wrote_else (λ (y : Node). y.next) ys (n - 1) x 0 (m - 1) (λ z. ne (omega (arith, inside.some)));
-    }
+        transport (λ j. Tied (next_in T.nodes.now) (prev_in T.nodes.now) (f j) (g j) (next_in ys) (sym spliced.prevs j) (f' j) (g' j) (prev_in T.nodes.now n) (next_in T.nodes.now n)) spliced.tied.tied
 
     values_kept : (m : ℕ) → values_at zs m ≡ values_at T.nodes.now m
-    values_kept m = wrote_same (λ (y : Node). values_in y.pack) ys (n - 1) x [] c (ap values_in x-pack) (m - 1) ∙ tied.packs m
+    values_kept m = spliced.packs m ∙ spliced.tied.packs m
 
     module _ (ls rs : List ℕ) (is : numbers T e ≡ ls ++ n ∷ rs) where
       gone : Change (room T) (links_of T) u e (ls ++ rs) (n ∷ spare (room T) (links_of T))
-      gone = taken (room T) (links_of T) sound e l ls n rs is u (next_in ys) closed_tied closed_led refl
+      gone = taken (room T) (links_of T) T.linked e l ls n rs is u (next_in ys) closed_tied spliced.led refl
           (λ i ne. field_else (λ (y : ListRecord). y.first) T.lists.now e 0 r i ne) (λ i ne. field_else (λ (y : ListRecord). y.last) T.lists.now e 0 r i ne)
 
       gone_here : holds zs u e ≡ map (values_at T.nodes.now) ls ++ map (values_at T.nodes.now) rs
-      gone_here = holds_here T.nodes.now zs long (links_of T) u e sound l (ls ++ rs) (n ∷ spare (room T) (links_of T)) gone
+      gone_here = holds_here T.nodes.now zs long (links_of T) u e T.linked l (ls ++ rs) (n ∷ spare (room T) (links_of T)) gone
           ∙ map_frame (values_at T.nodes.now) (values_at zs) (ls ++ rs) (λ m h. values_kept m)
           ∙ map-append (values_at T.nodes.now) ls rs
 
-    pub close_sound : Sound (length zs) u
+    pub close_sound : Sound (length zs) (links zs (set T.lists.now e r) free)
     close_sound =
         let a = split n (numbers T e) there in
-        holds_sound T.nodes.now zs long (links_of T) u e sound l (a.0 ++ a.1) (n ∷ spare (room T) (links_of T)) (gone a.0 a.1 a.2)
+        subst (λ m. Sound (length zs) (links zs (set T.lists.now e r) m)) (sym spliced.freed) (holds_sound T.nodes.now zs long (links_of T) u e T.linked l (a.0 ++ a.1) (n ∷ spare (room T) (links_of T)) (gone a.0 a.1 a.2))
 
-    pub close_nodes : (T' : Tables) → T'.nodes.now ≡ zs → T'.lists.now ≡ set T.lists.now e r → T'.free_node ≡ n
-        → r.name ≡ (get_or T.lists.now e b).name → r.count ≡ (get_or T.lists.now e b).count → r.next ≡ (get_or T.lists.now e b).next
-        → T'.free_list ≡ T.free_list → T'.held ≡ T.held
+    pub close_nodes : (T' : Tables) → T'.nodes.now ≡ zs → T'.lists.now ≡ set T.lists.now e r → T'.free_node ≡ free → T'.free_list ≡ T.free_list → T'.held ≡ T.held
         → (ls rs : List ℕ) → numbers T e ≡ ls ++ n ∷ rs → Relisted T T' e (map (values_at T.nodes.now) ls ++ map (values_at T.nodes.now) rs)
-    close_nodes T' zs-is hs-is n-is name count next free held ls rs is =
-        relisted T T' e r b _ hs-is name count next free held (ap length zs-is ∙ long)
+    close_nodes T' zs-is hs-is f-is list held ls rs is =
+        let n-is : T'.free_node ≡ n = f-is ∙ spliced.freed in
+        relisted T T' e r b _ hs-is spliced.same.0 spliced.same.1 spliced.same.2 list held (ap length zs-is ∙ long)
         ((λ j. holds (zs-is j) (links (zs-is j) (hs-is j) (n-is j)) e) ∙ gone_here ls rs is)
         (λ i k ne. (λ j. holds (zs-is j) (links (zs-is j) (hs-is j) (n-is j)) i)
-        ∙ holds_else T.nodes.now zs long (links_of T) u e sound l (ls ++ rs) (n ∷ spare (room T) (links_of T)) (gone ls rs is) (λ m o z. values_kept m) i k ne)
+        ∙ holds_else T.nodes.now zs long (links_of T) u e T.linked l (ls ++ rs) (n ∷ spare (room T) (links_of T)) (gone ls rs is) (λ m o z. values_kept m) i k ne)

@@ -10,7 +10,7 @@ use Rattle.nodes.specs.Nodes.{Nodes, flat}
 use Rattle.nodes.specs.Books.{rows_in_book}
 use Rattle.nodes.proofs.BookLaws.{shown}
 use Rattle.quicklist.specs.declared.table.Tables.{Tables}
-use Rattle.quicklist.specs.declared.table.Quicklist.{Quicklist}
+use Rattle.quicklist.specs.declared.keyed.Quicklist.{Quicklist}
 use Rattle.quicklist.specs.Tables.{book_of, Whole}
 use Rattle.quicklist.specs.Laws.{rows_held}
 use Rattle.quicklist.specs.Store.{lists_of, nodes_in, Changed}

@@ -167,15 +167,15 @@ module _ (T T₁ T₂ : Tables) (e : ℕ) (k : Key) (c next : ℕ) (ns : Nodes) 
 
   module _ (filled : Filled ns) (count : c ≡ length (flat ns)) (free held : ℕ) (total : held + length (flat (nodes_of T e)) ≡ T.held + length (flat ns)) (fits : held ≤ room T)
       (alone : (i : ℕ) → i < room T → i ≢ e → 0 < length (nodes_of T i) → key_at T.lists.now i ≡ k → ⊥)
-      (pool : Pool (room T) (next_list T₂.lists.now) (used T₂.lists.now) free) where
+      (pool : Pool (room T) (next_list T₂.lists.now) (used T₂.lists.now) free) (same : length T₂.lists.now ≡ room T₂) (linked : Sound (room T₂) (links_of T₂)) where
     abbrev new : Tables
-    new = record { nodes = T₂.nodes; lists = T₂.lists; free_node = T₂.free_node; free_list = free; held = held }
+    new = record { nodes = T₂.nodes; lists = T₂.lists; free_node = T₂.free_node; free_list = free; held = held; same = same; linked = linked }
 
     whole_then : Whole new
     whole_then = record {
-      sized = (lists_long ∙ w.sized.0 ∙ sym same_room, omega (arith, w.sized.1, same_room), omega (arith, w.sized.2, same_room));
+      sized = (same, omega (arith, w.sized.1, same_room), omega (arith, w.sized.2, same_room));
       within = omega (arith, fits, same_room);
-      linked = subst (λ m. Sound m (links_of T₂)) (sym same_room) (subst (λ m. Sound m (links_of T₂)) re.nodes (subst (Sound (room T₁)) (sym links_same) sound));
+      linked = linked;
       pooled = subst (λ m. Pool m (next_list T₂.lists.now) (used T₂.lists.now) (free)) (sym same_room) pool;
       loaded = λ i m b o. by_place (λ _ ms. (q : ℕ) → q < length ms → 0 < length (get_or ms q [])) (λ q h. All-get_or (λ n. 0 < length n) ns q [] h filled) (λ a b' ne q h. w.loaded a q b' h) i b m o;
       counted = λ i b. by_place (λ a ms. count_at T₂.lists.now a ≡ length (flat ms)) (wr.count ∙ count) (λ a b' ne. wr.counts a ne ∙ re.counts a ∙ w.counted a b') i b;
@@ -251,6 +251,13 @@ module _ (T T₁ T₂ : Tables) (e : ℕ) (k : Key) (c next : ℕ) (ns : Nodes) 
       pool_given (room T) (next_list T.lists.now) (used T.lists.now) T.free_list w.pooled (suc e) (used_is_one (first_at T.lists.now e) (used_some T w.linked e l was))
       (next_list T₂.lists.now) (used T₂.lists.now) (wr.link ∙ link) (λ m o ne. links_else m o ne) (free_now gone) used_else
 
+-- a record written over that keeps the ends of its list
+pub record_linked : (T : Tables) (e : ℕ) (r d : ListRecord) → r.first ≡ (get_or T.lists.now e d).first → r.last ≡ (get_or T.lists.now e d).last → Sound (room T) (links T.nodes.now (set T.lists.now e r) T.free_node)
+record_linked T e r d f l =
+    let a = map-set_same (λ (y : ListRecord). y.first) T.lists.now e r d f in
+    let b = map-set_same (λ (y : ListRecord). y.last) T.lists.now e r d l in
+    subst (Sound (room T)) (λ j. record { next = (links_of T).next; prev = (links_of T).prev; first = λ i. get_or (sym a j) i 0; last = λ i. get_or (sym b j) i 0; free = T.free_node }) T.linked
+
 -- ---- how many
 
 pub some_node : (ns : Nodes) → 0 < length (flat ns) → 0 < length ns
@@ -289,13 +296,14 @@ module _ (T T₁ : Tables) (e : ℕ) (ns : Nodes) (d : ListRecord) (w : Whole T)
     alone i b ne h q = w.named e i (l, b, ne, was, h, q)
 
     pub grown : T.held < room T → Written T₁ T₂ e (key_in it.name) (it.count + 1) it.next → length (flat ns) ≡ length (flat (nodes_of T e)) + 1
-        → Rebooked T (record { nodes = T₂.nodes; lists = T₂.lists; free_node = T₂.free_node; free_list = T₂.free_list; held = T₂.held + 1 }) e (key_at T.lists.now e) ns
-    grown left wr one =
+        → (same : length T₂.lists.now ≡ room T₂) (linked : Sound (room T₂) (links_of T₂))
+        → Rebooked T (record { nodes = T₂.nodes; lists = T₂.lists; free_node = T₂.free_node; free_list = T₂.free_list; held = T₂.held + 1; same = same; linked = linked }) e (key_at T.lists.now e) ns
+    grown left wr one same linked =
         let wr' = subst (λ k. Written T₁ T₂ e k (it.count + 1) it.next) it_key wr in
         rebooked T T₁ T₂ e (key_at T.lists.now e) (it.count + 1) it.next ns w l re sound wr' filled (omega (arith, it_count, one)) T₂.free_list (T₂.held + 1)
         (omega (arith, wr.held, re.total, one)) (omega (arith, wr.held, re.total, left)) alone
         (subst (Pool (room T) (next_list T₂.lists.now) (used T₂.lists.now)) (sym (wr.free ∙ re.free))
-        (pool_kept T T₁ T₂ e (key_at T.lists.now e) (it.count + 1) it.next ns w l re sound wr' was (some_node ns (omega (arith, one))) it_next))
+        (pool_kept T T₁ T₂ e (key_at T.lists.now e) (it.count + 1) it.next ns w l re sound wr' was (some_node ns (omega (arith, one))) it_next)) same linked
 
 pub joined_long : (s : Side) (vs : List Value) (v : Value) → length (joined s vs v) ≡ length vs + 1
 joined_long Left vs v = omega arith
@@ -327,8 +335,9 @@ module _ (T T₁ T₂ : Tables) (e i : ℕ) (w : Whole T) (l : e < room T) (ther
 
   -- the list is left empty
   pub emptied : old.first ≡ 0 → Written T₁ T₂ e (key_in old.name) (old.count - 1) T₁.free_list
-      → (free : ℕ) → free ≡ e + 1 → Rebooked T (record { nodes = T₂.nodes; lists = T₂.lists; free_node = T₂.free_node; free_list = free; held = T₂.held - 1 }) e (key_at T.lists.now e) (cut (nodes_of T e) i)
-  emptied none wr free is =
+      → (free : ℕ) → free ≡ e + 1 → (same : length T₂.lists.now ≡ room T₂) (linked : Sound (room T₂) (links_of T₂))
+      → Rebooked T (record { nodes = T₂.nodes; lists = T₂.lists; free_node = T₂.free_node; free_list = free; held = T₂.held - 1; same = same; linked = linked }) e (key_at T.lists.now e) (cut (nodes_of T e) i)
+  emptied none wr free is same linked =
       let ns = cut (nodes_of T e) i in
       let k = key_at T.lists.now e in
       let wr' = subst (λ q. Written T₁ T₂ e q (old.count - 1) T₁.free_list) (it_key T T₁ e ns blank w l re) wr in
@@ -337,12 +346,13 @@ module _ (T T₁ T₂ : Tables) (e i : ℕ) (w : Whole T) (l : e < room T) (ther
       rebooked T T₁ T₂ e k (old.count - 1) T₁.free_list ns w l re sound wr' cut_filled (omega (arith, it_count T T₁ e ns blank w l re, less)) free (T₂.held - 1)
       (omega (arith, wr.held, re.total, less, held_some)) (omega (arith, wr.held, re.total, w.within)) others
       (subst (Pool (room T) (next_list T₂.lists.now) (used T₂.lists.now)) (sym (is ∙ add-one e))
-      (pool_more T T₁ T₂ e k (old.count - 1) T₁.free_list ns w l re sound wr' was_some gone re.free))
+      (pool_more T T₁ T₂ e k (old.count - 1) T₁.free_list ns w l re sound wr' was_some gone re.free)) same linked
 
   -- an element is left
   pub shrunk : old.first ≢ 0 → Written T₁ T₂ e (key_in old.name) (old.count - 1) old.next
-      → Rebooked T (record { nodes = T₂.nodes; lists = T₂.lists; free_node = T₂.free_node; free_list = T₂.free_list; held = T₂.held - 1 }) e (key_at T.lists.now e) (cut (nodes_of T e) i)
-  shrunk some wr =
+      → (same : length T₂.lists.now ≡ room T₂) (linked : Sound (room T₂) (links_of T₂))
+      → Rebooked T (record { nodes = T₂.nodes; lists = T₂.lists; free_node = T₂.free_node; free_list = T₂.free_list; held = T₂.held - 1; same = same; linked = linked }) e (key_at T.lists.now e) (cut (nodes_of T e) i)
+  shrunk some wr same linked =
       let ns = cut (nodes_of T e) i in
       let k = key_at T.lists.now e in
       let wr' = subst (λ q. Written T₁ T₂ e q (old.count - 1) old.next) (it_key T T₁ e ns blank w l re) wr in
@@ -351,7 +361,7 @@ module _ (T T₁ T₂ : Tables) (e i : ℕ) (w : Whole T) (l : e < room T) (ther
       rebooked T T₁ T₂ e k (old.count - 1) old.next ns w l re sound wr' cut_filled (omega (arith, it_count T T₁ e ns blank w l re, less)) T₂.free_list (T₂.held - 1)
       (omega (arith, wr.held, re.total, less, held_some)) (omega (arith, wr.held, re.total, w.within)) others
       (subst (Pool (room T) (next_list T₂.lists.now) (used T₂.lists.now)) (sym (wr.free ∙ re.free))
-      (pool_kept T T₁ T₂ e k (old.count - 1) old.next ns w l re sound wr' was_some left (it_next T T₁ e ns blank w l re)))
+      (pool_kept T T₁ T₂ e k (old.count - 1) old.next ns w l re sound wr' was_some left (it_next T T₁ e ns blank w l re))) same linked
 
 -- ---- a new list
 
@@ -379,8 +389,9 @@ module _ (T : Tables) (w : Whole T) (left : T.held < room T) where
   pub created : (T₁ T₂ : Tables) (k : Key) (v : Value) → ((i : ℕ) → i < room T → 0 < length (nodes_of T i) → key_at T.lists.now i ≡ k → ⊥)
       → Relisted T T₁ (T.free_list - 1) (pushed takes Right (nodes_of T (T.free_list - 1)) v) → Sound (room T₁) (links_of T₁)
       → Written T₁ T₂ (T.free_list - 1) k 1 (get_or T₁.lists.now (T.free_list - 1) blank).next
-      → Rebooked T (record { nodes = T₂.nodes; lists = T₂.lists; free_node = T₂.free_node; free_list = (get_or T₁.lists.now (T.free_list - 1) blank).next; held = T₂.held + 1 }) (T.free_list - 1) k ((v ∷ []) ∷ [])
-  created T₁ T₂ k v absent re₀ sound wr =
+      → (same : length T₂.lists.now ≡ room T₂) (linked : Sound (room T₂) (links_of T₂))
+      → Rebooked T (record { nodes = T₂.nodes; lists = T₂.lists; free_node = T₂.free_node; free_list = (get_or T₁.lists.now (T.free_list - 1) blank).next; held = T₂.held + 1; same = same; linked = linked }) (T.free_list - 1) k ((v ∷ []) ∷ [])
+  created T₁ T₂ k v absent re₀ sound wr same linked =
       let e = T.free_list - 1 in
       let ns : Nodes = (v ∷ []) ∷ [] in
       let re = subst (Relisted T T₁ e) (new_pushed v) re₀ in
@@ -389,4 +400,4 @@ module _ (T : Tables) (w : Whole T) (left : T.held < room T) where
       rebooked T T₁ T₂ e k 1 next ns w new_within re sound wr (omega arith, tt) refl next (T₂.held + 1)
       (omega (arith, wr.held, re.total, gone)) (omega (arith, wr.held, re.total, left)) (λ i b ne h q. absent i b h q)
       (subst (Pool (room T) (next_list T₂.lists.now) (used T₂.lists.now)) (sym (it_next T T₁ e ns blank w new_within re))
-      (pool_less T T₁ T₂ e k 1 next ns w new_within re sound wr free_is (omega arith)))
+      (pool_less T T₁ T₂ e k 1 next ns w new_within re sound wr free_is (omega arith))) same linked

@@ -1,14 +1,17 @@
 -- What a write to one node leaves of the table, by the nodes' numbers.
 use Rattle.std.proofs.Common.{◌≡◌, ℕ, zero, suc, ◌-◌, ◌<◌, ◌≤◌, ◌≢◌, List, [], map, length, get_or, set, sym, refl, ap, ◌∙◌, arith, get_or-set_other, get_or-set_same}
 use Rattle.std.proofs.Math.ListN.{length-map, length-set}
+use Rattle.std.proofs.Math.Path.{transport}
 use Rattle.std.proofs.Math.Seq.{map-set, map-set_same}
 use Rattle.std.proofs.lemmas.List.{get_or-map}
 use Rattle.store.specs.Lists.{Value}
 use Rattle.listpack.specs.declared.pack.Listpack.{Listpack}
 use Rattle.listpack.specs.Packs.{values_in}
 use Rattle.links.specs.Links.{from}
+use Rattle.records.specs.declared.record.ListRecord.{ListRecord}
 use Rattle.quicklist.specs.declared.table.Node.{Node}
 use Rattle.quicklist.specs.Tables.{next_in, prev_in, values_at, Ahead, Behind, Joined, Refilled}
+use Rattle.quicklist.specs.Chains.{SplicedOut}
 
 -- a field of the node with the number n, read
 pub read : {X : Type 0} (f : Node → X) (xs : List Node) (n : ℕ) (d : Node) (z : X) → n < length xs → f (get_or xs n d) ≡ get_or (map f xs) n z
@@ -92,3 +95,25 @@ repacked_long xs n d p = length-set xs (n - 1) _
 
 pub repacked_refills : (xs : List Node) (n : ℕ) (d : Node) (p : Listpack) (vs : List Value) → 0 < n → n ≤ length xs → values_in p ≡ vs → Refilled xs (repacked xs n d p) n vs
 repacked_refills xs n d p vs o l w = refilled xs n _ d vs o l refl refl w
+
+-- ---- a node taken out of a list
+
+pub spliced_out : (xs ys : List Node) (r r' : ListRecord) (free n : ℕ) (x a b c : Node) → 0 < n → n ≤ length xs → length ys ≡ length xs
+    → Joined xs r.first r.last ys r'.first r'.last (get_or xs (n - 1) a).prev (get_or xs (n - 1) b).next
+    → x.next ≡ free → x.prev ≡ (get_or ys (n - 1) c).prev → x.pack ≡ (get_or ys (n - 1) c).pack → r'.name ≡ r.name → r'.count ≡ r.count → r'.next ≡ r.next
+    → SplicedOut xs r free (set ys (n - 1) x) r' n n
+spliced_out xs ys r r' free n x a b c o l len tied e v w name count next =
+    let p : (get_or xs (n - 1) a).prev ≡ prev_in xs n = read (λ (y : Node). y.prev) xs (n - 1) a 0 (omega arith) in
+    let q : (get_or xs (n - 1) b).next ≡ next_in xs n = read (λ (y : Node). y.next) xs (n - 1) b 0 (omega arith) in
+    record {
+      between = ys;
+      tied = transport (λ j. Joined xs r.first r.last ys r'.first r'.last (p j) (q j)) tied;
+      led = record {
+        here = wrote_here (λ (y : Node). y.next) ys (n - 1) x 0 (omega arith) ∙ e;
+        else = λ m k ne. wrote_else (λ (y : Node). y.next) ys (n - 1) x 0 (m - 1) (λ z. ne (omega arith));
+      };
+      prevs = ap (λ ms k. get_or ms (k - 1) 0) (map-set_same (λ (y : Node). y.prev) ys (n - 1) x c v);
+      packs = λ m. wrote_same (λ (y : Node). values_in y.pack) ys (n - 1) x [] c (ap values_in w) (m - 1);
+      freed = refl;
+      same = (name, count, next);
+    }

@@ -19,7 +19,7 @@ use Rattle.links.proofs.Sums.{sum_same, sum_first}
 use Rattle.records.specs.declared.record.ListRecord.{ListRecord}
 use Rattle.quicklist.specs.declared.table.Node.{Node}
 use Rattle.quicklist.specs.declared.table.Tables.{Tables}
-use Rattle.quicklist.specs.declared.table.Quicklist.{Quicklist}
+use Rattle.quicklist.specs.declared.keyed.Quicklist.{Quicklist}
 use Rattle.quicklist.specs.Tables.{values_at, room, links_of, nodes_of, book_of, Sized, Totalled}
 use Rattle.quicklist.specs.Store.{lists_of, nodes_in}
 

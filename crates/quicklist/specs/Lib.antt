@@ -1,3 +1,5 @@
+pub mod Chains
+pub mod LinkProps
 pub mod Tables
 pub mod Props
 pub mod Store

@@ -1,54 +1,24 @@
 -- What the tables of a quicklist show.
-use Rattle.std.specs.Prelude.{◌≡◌, ℕ, zero, suc, ◌+◌, ◌-◌, ◌<◌, ◌≤◌, Bool, true, false, cond, ◌≢◌, List, [], ◌∷◌, ◌++◌, map, length, slice_set, ◌==◌, slice_index, slice_index_or}
+use Rattle.std.specs.Prelude.{◌≡◌, ℕ, suc, ◌+◌, ◌<◌, ◌≤◌, Bool, true, false, ◌≢◌, List, [], ◌∷◌, ◌++◌, map, length, slice_set, slice_index, slice_index_or}
 use Rattle.order.specs.Keys.{Key, key_in}
 use Rattle.store.specs.declared.Side.{Side}
 use Rattle.store.specs.declared.Side.TheVariants.{Left, Right}
 use Rattle.store.specs.Limits.{largest_store}
 use Rattle.store.specs.Lists.{Value}
-use Rattle.listpack.specs.Packs.{values_in, takes, swaps}
-use Rattle.links.specs.Links.{from, chain, sum, Links, listed, Tied, Sound, Pool}
+use Rattle.listpack.specs.Packs.{takes, swaps}
+use Rattle.links.specs.Links.{chain, sum, Links, listed, Sound, Pool}
 use Rattle.nodes.specs.Nodes.{Nodes, flat, cut, added, changed}
 use Rattle.nodes.specs.Books.{Book}
 use Rattle.records.specs.declared.record.ListRecord.{ListRecord}
 use Rattle.records.specs.Records.{key_at, first_at}
 use Rattle.quicklist.specs.declared.table.Node.{Node}
 use Rattle.quicklist.specs.declared.table.Tables.{Tables}
-
--- ---- nodes by their numbers: number n lies at index n - 1
-
-abbrev pub next_in : List Node → ℕ → ℕ
-next_in nodes n = slice_index (map (λ (x : Node). x.next) nodes) (n - 1)
-
-abbrev pub prev_in : List Node → ℕ → ℕ
-prev_in nodes n = slice_index (map (λ (x : Node). x.prev) nodes) (n - 1)
-
-abbrev pub values_at : List Node → ℕ → List Value
-values_at nodes n = slice_index_or (map (λ (x : Node). values_in x.pack) nodes) (n - 1) []
-
--- ---- list records by their places
-
-abbrev pub last_at : List ListRecord → ℕ → ℕ
-last_at lists e = slice_index (map (λ (r : ListRecord). r.last) lists) e
-
-abbrev pub count_at : List ListRecord → ℕ → ℕ
-count_at lists e = slice_index (map (λ (r : ListRecord). r.count) lists) e
-
--- the next free record: number n lies at index n - 1
-abbrev pub next_list : List ListRecord → ℕ → ℕ
-next_list lists n = slice_index (map (λ (r : ListRecord). r.next) lists) (n - 1)
-
--- 1 for the number of a record in use, one with a first node, and 0 for any other
-abbrev pub used : List ListRecord → ℕ → ℕ
-used lists zero = 0
-used lists (suc e) = cond (first_at lists e == 0) 0 1
+pub use Rattle.quicklist.specs.Chains.{next_in, prev_in, values_at, last_at, count_at, next_list, used, links, Ahead, Behind, Joined, Refilled}
 
 -- ---- the tables
 
 abbrev pub room : Tables → ℕ
 room t = length t.nodes.now
-
-abbrev pub links : List Node → List ListRecord → ℕ → Links
-links nodes lists free = record { next = next_in nodes; prev = prev_in nodes; first = first_at lists; last = last_at lists; free = free }
 
 abbrev pub links_of : Tables → Links
 links_of t = links t.nodes.now t.lists.now t.free_node
@@ -116,34 +86,6 @@ pub record Threaded (lists : List ListRecord) (k : ℕ) : Type 0 where
   pub last : last_at lists k ≡ 0
   pub count : count_at lists k ≡ 0
   pub next : slice_index (map (λ (r : ListRecord). r.next) lists) k ≡ k
-
--- ---- one write
-
--- p leads to q now in the list with this first node, and nothing else has changed
-pub record Ahead (xs : List Node) (first : ℕ) (ys : List Node) (first' p q : ℕ) : Type 0 where
-  pub here : from first' (next_in ys) p ≡ q
-  pub else : (m : ℕ) → m ≢ p → from first' (next_in ys) m ≡ from first (next_in xs) m
-  pub prevs : (m : ℕ) → prev_in ys m ≡ prev_in xs m
-  pub packs : (m : ℕ) → values_at ys m ≡ values_at xs m
-
--- q leads back to p now in the list with this last node, and nothing else has changed
-pub record Behind (xs : List Node) (last : ℕ) (ys : List Node) (last' q p : ℕ) : Type 0 where
-  pub here : from last' (prev_in ys) q ≡ p
-  pub else : (m : ℕ) → m ≢ q → from last' (prev_in ys) m ≡ from last (prev_in xs) m
-  pub nexts : (m : ℕ) → next_in ys m ≡ next_in xs m
-  pub packs : (m : ℕ) → values_at ys m ≡ values_at xs m
-
--- q follows p now in the list with these ends, and nothing else has changed
-pub record Joined (xs : List Node) (first last : ℕ) (ys : List Node) (first' last' p q : ℕ) : Type 0 where
-  pub tied : Tied (next_in xs) (prev_in xs) first last (next_in ys) (prev_in ys) first' last' p q
-  pub packs : (m : ℕ) → values_at ys m ≡ values_at xs m
-
--- node n holds vs now, and nothing else has changed
-pub record Refilled (xs ys : List Node) (n : ℕ) (vs : List Value) : Type 0 where
-  pub nexts : next_in ys ≡ next_in xs
-  pub prevs : prev_in ys ≡ prev_in xs
-  pub here : values_at ys n ≡ vs
-  pub else : (m : ℕ) → 0 < m → m ≢ n → values_at ys m ≡ values_at xs m
 
 -- ---- a change to one list
 

@@ -7,12 +7,20 @@ ghost use Rattle.store.specs.Answers.{Copied, over};
 ghost use Rattle.listpack.specs.Packs.{takes, swaps};
 ghost use Rattle.nodes.specs.Nodes.{pushed, added, cut, changed};
 ghost use Rattle.quicklist.specs.Tables.{room, Whole};
+ghost use Rattle.quicklist.specs.Props.{Whole-prop};
 ghost use Rattle.quicklist.specs.Store.{lists_of, nodes_in, Placed, Changed};
 
 use crate::table::Tables;
 use order::KeyRow;
 use records::{find, ranked};
 use store::{LONGEST_KEY, LONGEST_VALUE, Side};
+
+// A store over both tables.
+#[derive(Drop)]
+pub struct Quicklist<'a> {
+    pub(crate) tables: Tables<'a>,
+    ghost whole: { Whole tables } by { Whole-prop tables },
+}
 
 // Copies bytes to the beginning of `out`; those behind them stay.
 fn lay(out: &mut [u8], bytes: &[u8])

@@ -21,13 +21,14 @@ mod table;
 mod ties;
 mod whole;
 
+pub use keyed::Quicklist;
 use order::KeyRow;
 pub use records::ListRecord;
 use store::{
     LARGEST_STORE, LONGEST_KEY, LONGEST_VALUE, ListEnds, Refusal, Side, Unfit, WholeLists,
 };
+pub use table::Node;
 use table::Tables;
-pub use table::{Node, Quicklist};
 
 // The two tables of a store, as they are lent.
 #[derive(Drop)]
@@ -60,15 +61,9 @@ fn empty_over<'a>(nodes: &'a mut [Node], lists: &'a mut [ListRecord]) -> Quickli
     ensures room { room_of result ≡ length nodes.old }
     ensures none { lists_in result ≡ [] }
 {
-    let mut tables = Tables {
-        nodes,
-        lists,
-        free_node: 0,
-        free_list: 0,
-        held: 0,
-    };
-    tables.clear();
-    Quicklist { tables }
+    Quicklist {
+        tables: Tables::cleared(nodes, lists),
+    }
 }
 
 // The store by its lists, and by their nodes.

@@ -15,19 +15,17 @@ use store::Side;
 impl<'a> Tables<'a> {
     // Adds a value before the one at j of a node. A node that does not take it is cut there.
     fn put_in(&mut self, e: usize, n: u16, j: usize, value: &[u8])
-        requires linked { Sound (room self.old) (links_of self.old) }
-        requires same { length self.old.lists.now ≡ room self.old }
         requires which { e < room self.old }
         requires more { 0 < self.old.free_node }
         requires there { 0 < tally n (numbers self.old e) }
         requires place { j ≤ length (values_at self.old.nodes.now n) }
         requires short { length value.now ≤ longest_value }
-        ensures linked { Sound (room self.new) (links_of self.new) }
         ensures nodes { (ls rs : List ℕ) → numbers self.old e ≡ ls ++ n ∷ rs
             → Relisted self.old self.new e (map (values_at self.old.nodes.now) ls
             ++ (put_in takes (values_at self.old.nodes.now n) j value.now ++ map (values_at self.old.nodes.now) rs)) }
     {
-        let pack = &mut self.nodes[n as usize - 1].pack;
+        let nodes = &mut *self.nodes;
+        let pack = &mut nodes[n as usize - 1].pack;
         if pack.insert(j, value).is_ok() {
             return;
         }
@@ -37,13 +35,10 @@ impl<'a> Tables<'a> {
 
     // Puts a node with the one value into a list, after its node p or before all where p is 0.
     fn open_with(&mut self, e: usize, p: u16, value: &[u8])
-        requires linked { Sound (room self.old) (links_of self.old) }
-        requires same { length self.old.lists.now ≡ room self.old }
         requires which { e < room self.old }
         requires more { 0 < self.old.free_node }
         requires there { 0 < tally p (0 ∷ numbers self.old e) }
         requires short { length value.now ≤ longest_value }
-        ensures linked { Sound (room self.new) (links_of self.new) }
         ensures nodes { (ls rs : List ℕ) → numbers self.old e ≡ ls ++ rs → p ≡ last_or 0 ls
             → Relisted self.old self.new e (map (values_at self.old.nodes.now) ls ++ (value.now ∷ []) ∷ map (values_at self.old.nodes.now) rs) }
     {
@@ -96,12 +91,9 @@ impl<'a> Tables<'a> {
 
     // Adds a value at a side of a list: in the node there, if it fits, else in a new node.
     pub(crate) fn push_in(&mut self, e: usize, side: Side, value: &[u8])
-        requires linked { Sound (room self.old) (links_of self.old) }
-        requires same { length self.old.lists.now ≡ room self.old }
         requires which { e < room self.old }
         requires more { 0 < self.old.free_node }
         requires short { length value.now ≤ longest_value }
-        ensures linked { Sound (room self.new) (links_of self.new) }
         ensures nodes { Relisted self.old self.new e (pushed takes side (nodes_of self.old e) value.now) }
     {
         let n = self.end_of(e, side);
@@ -110,7 +102,8 @@ impl<'a> Tables<'a> {
             return;
         }
         let j = self.end_place(side, n);
-        let pack = &mut self.nodes[n as usize - 1].pack;
+        let nodes = &mut *self.nodes;
+        let pack = &mut nodes[n as usize - 1].pack;
         if pack.insert(j, value).is_ok() {
             return;
         }
@@ -120,33 +113,30 @@ impl<'a> Tables<'a> {
 
     // Writes a value over the one at j of a node, if it fits.
     fn write_in(&mut self, e: usize, n: u16, j: usize, value: &[u8]) -> bool
-        requires linked { Sound (room self.old) (links_of self.old) }
         requires which { e < room self.old }
         requires there { 0 < tally n (numbers self.old e) }
         requires place { j < length (values_at self.old.nodes.now n) }
         requires short { length value.now ≤ longest_value }
-        ensures linked { Sound (room self.new) (links_of self.new) }
         ensures told { result ≡ swaps (values_at self.old.nodes.now n) j value.now }
         ensures nodes { (ls rs : List ℕ) → numbers self.old e ≡ ls ++ n ∷ rs
             → Relisted self.old self.new e (map (values_at self.old.nodes.now) ls
             ++ (if result then slice_set (values_at self.old.nodes.now n) j value.now else values_at self.old.nodes.now n) ∷ map (values_at self.old.nodes.now) rs) }
     {
-        self.nodes[n as usize - 1].pack.replace(j, value).is_ok()
+        let nodes = &mut *self.nodes;
+        nodes[n as usize - 1].pack.replace(j, value).is_ok()
     }
 
     // Takes the value at j out of a node. A node left empty goes out of the list.
     fn cut_in(&mut self, e: usize, n: u16, j: usize)
-        requires linked { Sound (room self.old) (links_of self.old) }
-        requires same { length self.old.lists.now ≡ room self.old }
         requires which { e < room self.old }
         requires there { 0 < tally n (numbers self.old e) }
         requires place { j < length (values_at self.old.nodes.now n) }
-        ensures linked { Sound (room self.new) (links_of self.new) }
         ensures nodes { (ls rs : List ℕ) → numbers self.old e ≡ ls ++ n ∷ rs
             → Relisted self.old self.new e (map (values_at self.old.nodes.now) ls
             ++ (unless_empty (remove (values_at self.old.nodes.now n) j) ++ map (values_at self.old.nodes.now) rs)) }
     {
-        self.nodes[n as usize - 1].pack.remove(j).unwrap();
+        let nodes = &mut *self.nodes;
+        nodes[n as usize - 1].pack.remove(j).unwrap();
         if self.holds_nothing(n) {
             self.close(e, n);
         }
@@ -154,8 +144,6 @@ impl<'a> Tables<'a> {
 
     // The node of the value at an index of a list, and the value's place in it. The last node is tried first, so that both ends are near.
     pub(crate) fn locate(&self, e: usize, index: usize) -> Spot
-        requires linked { Sound (room self.now) (links_of self.now) }
-        requires same { length self.now.lists.now ≡ room self.now }
         requires which { e < room self.now }
         requires counted { count_at self.now.lists.now e ≡ length (flat (nodes_of self.now e)) }
         requires there { index < length (flat (nodes_of self.now e)) }
@@ -174,8 +162,6 @@ impl<'a> Tables<'a> {
 
     // The same from the first node on. Whole nodes are passed over by their counts.
     fn walk_to(&self, e: usize, index: usize) -> Spot
-        requires linked { Sound (room self.now) (links_of self.now) }
-        requires same { length self.now.lists.now ≡ room self.now }
         requires which { e < room self.now }
         requires there { index < length (flat (nodes_of self.now e)) }
         ensures { Located self.now e index result.node result.place }
@@ -195,15 +181,12 @@ impl<'a> Tables<'a> {
 
     // Adds a value before the one at an index of a list, or at the end of its last node.
     pub(crate) fn insert_in(&mut self, e: usize, index: usize, value: &[u8])
-        requires linked { Sound (room self.old) (links_of self.old) }
-        requires same { length self.old.lists.now ≡ room self.old }
         requires which { e < room self.old }
         requires more { 0 < self.old.free_node }
         requires used { 0 < length (nodes_of self.old e) }
         requires counted { count_at self.old.lists.now e ≡ length (flat (nodes_of self.old e)) }
         requires there { index ≤ length (flat (nodes_of self.old e)) }
         requires short { length value.now ≤ longest_value }
-        ensures linked { Sound (room self.new) (links_of self.new) }
         ensures nodes { Relisted self.old self.new e (added takes (nodes_of self.old e) index value.now) }
     {
         if index < self.lists[e].count as usize {
@@ -218,12 +201,9 @@ impl<'a> Tables<'a> {
 
     // Takes the value at an index out of a list.
     pub(crate) fn remove_in(&mut self, e: usize, index: usize)
-        requires linked { Sound (room self.old) (links_of self.old) }
-        requires same { length self.old.lists.now ≡ room self.old }
         requires which { e < room self.old }
         requires counted { count_at self.old.lists.now e ≡ length (flat (nodes_of self.old e)) }
         requires there { index < length (flat (nodes_of self.old e)) }
-        ensures linked { Sound (room self.new) (links_of self.new) }
         ensures nodes { Relisted self.old self.new e (cut (nodes_of self.old e) index) }
     {
         let spot = self.locate(e, index);
@@ -232,13 +212,10 @@ impl<'a> Tables<'a> {
 
     // Writes a value over the one at an index of a list, if its node takes it.
     pub(crate) fn replace_in(&mut self, e: usize, index: usize, value: &[u8]) -> bool
-        requires linked { Sound (room self.old) (links_of self.old) }
-        requires same { length self.old.lists.now ≡ room self.old }
         requires which { e < room self.old }
         requires counted { count_at self.old.lists.now e ≡ length (flat (nodes_of self.old e)) }
         requires there { index < length (flat (nodes_of self.old e)) }
         requires short { length value.now ≤ longest_value }
-        ensures linked { Sound (room self.new) (links_of self.new) }
         ensures nodes { Replaced self.old self.new e index value.now result }
     {
         let spot = self.locate(e, index);

@@ -1,6 +1,8 @@
-// The tables of a quicklist, and what holds of them between any two calls.
-ghost use Rattle.quicklist.specs.Tables.{Whole};
-ghost use Rattle.quicklist.specs.Props.{Whole-prop};
+// The tables of a quicklist.
+ghost use Rattle.std.specs.Prelude.{◌≡◌, length};
+ghost use Rattle.links.specs.Links.{Sound};
+ghost use Rattle.quicklist.specs.Chains.{links};
+ghost use Rattle.quicklist.specs.LinkProps.{Sound-prop};
 
 use listpack::Listpack;
 use records::ListRecord;
@@ -13,7 +15,8 @@ pub struct Node {
     pub(crate) pack: Listpack,
 }
 
-// Both tables, the first free node, the first free list record, and how many elements there are.
+// Both tables, of one length, the first free node, the first free list record, and how many elements there are. Each node is in one list or free, and led
+// through from both ends.
 #[derive(Drop)]
 pub(crate) struct Tables<'a> {
     pub(crate) nodes: &'a mut [Node],
@@ -21,10 +24,6 @@ pub(crate) struct Tables<'a> {
     pub(crate) free_node: u16,
     pub(crate) free_list: u16,
     pub(crate) held: usize,
-}
-
-#[derive(Drop)]
-pub struct Quicklist<'a> {
-    pub(crate) tables: Tables<'a>,
-    ghost whole: { Whole tables } by { Whole-prop tables },
+    ghost same: { length lists.now ≡ length nodes.now },
+    ghost linked: { Sound (length nodes.now) (links nodes.now lists.now free_node) } by { Sound-prop (length nodes.now) (links nodes.now lists.now free_node) },
 }

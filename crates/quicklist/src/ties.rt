@@ -1,6 +1,6 @@
 // The links between nodes, each written in one place.
 ghost use Rattle.std.specs.Prelude.{◌≡◌, ◌≤◌, length};
-ghost use Rattle.quicklist.specs.Tables.{Ahead, Behind, Joined};
+ghost use Rattle.quicklist.specs.Chains.{Ahead, Behind, Joined};
 
 use crate::table::Node;
 

@@ -45,20 +45,26 @@ fn number_at(e: usize) -> u16
 }
 
 impl<'a> Tables<'a> {
-    // Frees all nodes and all list records.
-    pub(crate) fn clear(&mut self)
-        requires same { length self.old.lists.now ≡ room self.old }
-        requires some { 1 ≤ room self.old }
-        requires few { room self.old ≤ largest_store }
-        ensures whole { Whole self.new }
-        ensures kept { room self.new ≡ room self.old }
-        ensures none { self.new.held ≡ 0 }
+    // The tables with all nodes and all list records free.
+    pub(crate) fn cleared(nodes: &'a mut [Node], lists: &'a mut [ListRecord]) -> Tables<'a>
+        requires same { length lists.old ≡ length nodes.old }
+        requires some { 1 ≤ length nodes.old }
+        requires few { length nodes.old ≤ largest_store }
+        ensures whole { Whole result }
+        ensures kept { room result ≡ length nodes.old }
+        ensures none { result.held ≡ 0 }
     {
-        thread_nodes(self.nodes);
-        thread_lists(self.lists);
-        self.free_node = self.nodes.len() as u16;
-        self.free_list = self.lists.len() as u16;
-        self.held = 0;
+        thread_nodes(nodes);
+        thread_lists(lists);
+        let free_node = nodes.len() as u16;
+        let free_list = lists.len() as u16;
+        Tables {
+            nodes,
+            lists,
+            free_node,
+            free_list,
+            held: 0,
+        }
     }
 
     // Writes the key, the count and the link of a list record.

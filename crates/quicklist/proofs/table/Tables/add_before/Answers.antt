@@ -12,8 +12,6 @@ pub insert_in-requires : goal.insert_in-requires
 insert_in-requires c =
     let w = c.requires.whole in
     record {
-      linked = w.linked;
-      same = w.sized.0;
       which = c.requires.which;
       more = node_left c.args.self.now w c.requires.more;
       used = c.requires.used;
@@ -32,6 +30,6 @@ returns c =
     let s = c.args.self.now in
     let ns = nodes_of s c.args.e in
     let v = c.args.value.now in
-    grown s c.insert_in.new.self c.args.e _ _ c.requires.whole c.requires.which c.insert_in.ensures.nodes c.write_record.new.self c.requires.used c.insert_in.ensures.linked
+    grown s c.insert_in.new.self c.args.e _ _ c.requires.whole c.requires.which c.insert_in.ensures.nodes c.write_record.new.self c.requires.used c.insert_in.new.self.linked
     (filled_added takes ns c.args.index v (lone v c.requires.short) (loaded_filled s c.requires.whole c.args.e c.requires.which)) c.requires.more c.write_record.ensures
-    (ap length (flat_added takes ns c.args.index v c.requires.there) ∙ length-insert (flat ns) c.args.index v c.requires.there)
+    (ap length (flat_added takes ns c.args.index v c.requires.there) ∙ length-insert (flat ns) c.args.index v c.requires.there) _ _

@@ -9,7 +9,7 @@ use Rattle.quicklist.proofs.table.Tables.add_end.Goals as goal
 pub push_in-requires : goal.push_in-requires
 push_in-requires c =
     let w = c.requires.whole in
-    record { linked = w.linked; same = w.sized.0; which = c.requires.which; more = node_left c.args.self.now w c.requires.more; short = c.requires.short }
+    record { which = c.requires.which; more = node_left c.args.self.now w c.requires.more; short = c.requires.short }
 
 pub overflow_add-it : goal.overflow_add-it
 overflow_add-it c =
@@ -21,6 +21,6 @@ returns c =
     let s = c.args.self.now in
     let ns = nodes_of s c.args.e in
     let v = c.args.value.now in
-    grown s c.push_in.new.self c.args.e _ _ c.requires.whole c.requires.which c.push_in.ensures.nodes c.write_record.new.self c.requires.used c.push_in.ensures.linked
+    grown s c.push_in.new.self c.args.e _ _ c.requires.whole c.requires.which c.push_in.ensures.nodes c.write_record.new.self c.requires.used c.push_in.new.self.linked
     (filled_pushed takes c.args.side ns v (loaded_filled s c.requires.whole c.args.e c.requires.which)) c.requires.more c.write_record.ensures
-    (ap length (flat_pushed takes c.args.side ns v) ∙ joined_long c.args.side _ v)
+    (ap length (flat_pushed takes c.args.side ns v) ∙ joined_long c.args.side _ v) _ _

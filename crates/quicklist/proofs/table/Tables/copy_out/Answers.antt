@@ -20,7 +20,7 @@ pub locate-spot-requires : goal.locate-spot-requires
 locate-spot-requires c =
     let p = (place (goal.at.locate-spot-requires c).After-unwrap-e) in
     let w = c.requires.whole in
-    record { linked = w.linked; same = w.sized.0; which = p.0; counted = w.counted c.unwrap-e.result p.0; there = omega (arith, c.requires.there, ap length (at_here c.args.self.now w c.unwrap-e.result c.args.key.now p)) }
+    record { which = p.0; counted = w.counted c.unwrap-e.result p.0; there = omega (arith, c.requires.there, ap length (at_here c.args.self.now w c.unwrap-e.result c.args.key.now p)) }
 
 pub overflow_sub-spot : goal.overflow_sub-spot
 overflow_sub-spot c =

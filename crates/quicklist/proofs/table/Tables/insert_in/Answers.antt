@@ -10,20 +10,19 @@ use Rattle.quicklist.proofs.table.Tables.insert_in.Goals as goal
 pub locate-spot-requires : goal.locate-spot-requires
 locate-spot-requires c =
     let s = c.args.self.now in
-    let k : (get_or s.lists.now c.args.e blank).count ≡ count_at s.lists.now c.args.e = field_read (λ (r : ListRecord). r.count) s.lists.now c.args.e 0 blank (omega (arith, c.requires.same, c.requires.which)) in
-    record { linked = c.requires.linked; same = c.requires.same; which = c.requires.which; counted = c.requires.counted; there = omega (arith, k, c.requires.counted, c.if-index-self.true) }
+    let k : (get_or s.lists.now c.args.e blank).count ≡ count_at s.lists.now c.args.e = field_read (λ (r : ListRecord). r.count) s.lists.now c.args.e 0 blank (omega (arith, c.args.self.now.same, c.requires.which)) in
+    record { which = c.requires.which; counted = c.requires.counted; there = omega (arith, k, c.requires.counted, c.if-index-self.true) }
 
 pub put_in-requires : goal.put_in-requires
 put_in-requires c =
     let f = c.locate-spot.ensures in
-    record { linked = c.requires.linked; same = c.requires.same; which = c.requires.which; more = c.requires.more; there = located_in c.args.self.now c.args.e _ _ _ f; place = omega (arith, f.inside); short = c.requires.short }
+    record { which = c.requires.which; more = c.requires.more; there = located_in c.args.self.now c.args.e _ _ _ f; place = omega (arith, f.inside); short = c.requires.short }
 
 pub returns-then-index-self : goal.returns-then-index-self
 returns-then-index-self c =
     let s = c.args.self.now in
     let f = c.locate-spot.ensures in
     record {
-      linked = c.put_in.ensures.linked;
       nodes = subst (Relisted s c.put_in.new.self c.args.e) (added_there s c.args.e _ _ _ f c.args.value.now) (c.put_in.ensures.nodes f.before f.behind f.is);
     }
 
@@ -31,25 +30,24 @@ pub count_in-j-requires : goal.count_in-j-requires
 count_in-j-requires c =
     let s = c.args.self.now in
     let n = (get_or s.lists.now c.args.e blank).last in
-    let d = last_node s c.args.e c.requires.linked c.requires.which c.requires.used n (field_read (λ (r : ListRecord). r.last) s.lists.now c.args.e 0 blank (omega (arith, c.requires.same, c.requires.which))) in
-    let w = within (room s) (links_of s) c.requires.linked c.args.e n c.requires.which (omega (arith, d.there)) in
+    let d = last_node s c.args.e c.args.self.now.linked c.requires.which c.requires.used n (field_read (λ (r : ListRecord). r.last) s.lists.now c.args.e 0 blank (omega (arith, c.args.self.now.same, c.requires.which))) in
+    let w = within (room s) (links_of s) c.args.self.now.linked c.args.e n c.requires.which (omega (arith, d.there)) in
     record { some = w.0; within = w.1 }
 
 pub put_in-requires-2 : goal.put_in-requires-2
 put_in-requires-2 c =
     let s = c.args.self.now in
     let n = (get_or s.lists.now c.args.e blank).last in
-    let d = last_node s c.args.e c.requires.linked c.requires.which c.requires.used n (field_read (λ (r : ListRecord). r.last) s.lists.now c.args.e 0 blank (omega (arith, c.requires.same, c.requires.which))) in
-    record { linked = c.requires.linked; same = c.requires.same; which = c.requires.which; more = c.requires.more; there = d.there; place = omega (arith, c.count_in-j.ensures); short = c.requires.short }
+    let d = last_node s c.args.e c.args.self.now.linked c.requires.which c.requires.used n (field_read (λ (r : ListRecord). r.last) s.lists.now c.args.e 0 blank (omega (arith, c.args.self.now.same, c.requires.which))) in
+    record { which = c.requires.which; more = c.requires.more; there = d.there; place = omega (arith, c.count_in-j.ensures); short = c.requires.short }
 
 pub returns : goal.returns
 returns c =
     let s = c.args.self.now in
     let n = (get_or s.lists.now c.args.e blank).last in
-    let k : (get_or s.lists.now c.args.e blank).count ≡ count_at s.lists.now c.args.e = field_read (λ (r : ListRecord). r.count) s.lists.now c.args.e 0 blank (omega (arith, c.requires.same, c.requires.which)) in
-    let d = last_node s c.args.e c.requires.linked c.requires.which c.requires.used n (field_read (λ (r : ListRecord). r.last) s.lists.now c.args.e 0 blank (omega (arith, c.requires.same, c.requires.which))) in
+    let k : (get_or s.lists.now c.args.e blank).count ≡ count_at s.lists.now c.args.e = field_read (λ (r : ListRecord). r.count) s.lists.now c.args.e 0 blank (omega (arith, c.args.self.now.same, c.requires.which)) in
+    let d = last_node s c.args.e c.args.self.now.linked c.requires.which c.requires.used n (field_read (λ (r : ListRecord). r.last) s.lists.now c.args.e 0 blank (omega (arith, c.args.self.now.same, c.requires.which))) in
     record {
-      linked = c.put_in-2.ensures.linked;
       nodes = subst (Relisted s c.put_in-2.new.self c.args.e)
           (d.rule c.args.index c.count_in-j.result c.args.value.now (omega (arith, k, c.requires.counted, c.requires.there, c.if-index-self.false)) c.count_in-j.ensures)
           (c.put_in-2.ensures.nodes d.before [] d.is);

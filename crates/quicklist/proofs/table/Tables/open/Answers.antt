@@ -1,55 +1,28 @@
-use Rattle.std.proofs.Common.{◌≡◌, ◌-◌, length, refl, ◌∙◌, arith, length-set}
-use Rattle.quicklist.specs.declared.table.Node.{Node}
-use Rattle.quicklist.proofs.Writes.{read}
+use Rattle.std.proofs.Common.{◌≤◌, length, refl, sym, ◌∙◌, subst, arith, length-set}
+use Rattle.links.specs.Links.{from}
+use Rattle.records.specs.declared.record.ListRecord.{ListRecord}
+use Rattle.quicklist.specs.Chains.{next_in}
+use Rattle.quicklist.proofs.Records.{field_read}
 use Rattle.quicklist.proofs.Splices.{has_room, open_sound, open_nodes}
 use Rattle.quicklist.proofs.table.Tables.open.Goals as goal
 
-pub after-q-requires : goal.after-q-requires
-after-q-requires c =
+pub splice_in-requires : goal.splice_in-requires
+splice_in-requires c =
     let s = c.args.self.now in
-    let r = has_room s.nodes.now s.lists.now s.free_node c.args.e c.args.p c.requires.linked c.requires.same c.requires.which c.requires.more c.requires.there in
-    record { which = omega (arith, c.requires.same, c.requires.which); within = r.p_in }
+    let r = has_room s.nodes.now s.lists.now s.free_node c.args.e c.args.p s.linked s.same c.requires.which c.requires.more c.requires.there in
+    let same = s.same in
+    record {
+      some = c.requires.more;
+      there = r.free_in;
+      before = r.p_in;
+      behind = subst (λ a. from a (next_in s.nodes.now) c.args.p ≤ length s.nodes.now) (sym (field_read (λ (x : ListRecord). x.first) s.lists.now c.args.e 0 _ (omega (arith, c.requires.which)))) r.q_in;
+    }
 
-pub bounds-self-slot : goal.bounds-self-slot
-bounds-self-slot c =
+pub invariant_of-self : goal.invariant_of-self
+invariant_of-self c =
     let s = c.args.self.now in
-    let r = has_room s.nodes.now s.lists.now s.free_node c.args.e c.args.p c.requires.linked c.requires.same c.requires.which c.requires.more c.requires.there in
-    omega (arith, r.free_in, c.requires.more)
-
-pub bounds-self-slot-2 : goal.bounds-self-slot-2
-bounds-self-slot-2 c =
-    let s = c.args.self.now in
-    let r = has_room s.nodes.now s.lists.now s.free_node c.args.e c.args.p c.requires.linked c.requires.same c.requires.which c.requires.more c.requires.there in
-    omega (arith, r.free_in, c.requires.more)
-
-pub bounds-self-slot-3 : goal.bounds-self-slot-3
-bounds-self-slot-3 c =
-    let s = c.args.self.now in
-    let r = has_room s.nodes.now s.lists.now s.free_node c.args.e c.args.p c.requires.linked c.requires.same c.requires.which c.requires.more c.requires.there in
-    omega (arith, r.free_in, c.requires.more)
-
-pub tie-halfway-requires : goal.tie-halfway-requires
-tie-halfway-requires c =
-    let s = c.args.self.now in
-    let r = has_room s.nodes.now s.lists.now s.free_node c.args.e c.args.p c.requires.linked c.requires.same c.requires.which c.requires.more c.requires.there in
-    record { within = rw length-set r.p_in; inside = rw length-set r.free_in }
-
-pub tie-ends-requires : goal.tie-ends-requires
-tie-ends-requires c =
-    let s = c.args.self.now in
-    let r = has_room s.nodes.now s.lists.now s.free_node c.args.e c.args.p c.requires.linked c.requires.same c.requires.which c.requires.more c.requires.there in
-    let l = simp length-set at c.tie-halfway.auto.nodes in
-    record { within = omega (arith, l, r.free_in); inside = omega (arith, l, r.q_in, c.after-q.ensures) }
+    let len = c.splice_in.auto.nodes in
+    record { same = length-set _ _ _ ∙ s.same ∙ sym len; linked = open_sound s c.args.e c.args.p c.requires.which c.requires.more c.requires.there _ _ _ _ c.args.pack c.splice_in.ensures len }
 
 pub returns : goal.returns
-returns c =
-    let s = c.args.self.now in
-    let room = has_room s.nodes.now s.lists.now s.free_node c.args.e c.args.p c.requires.linked c.requires.same c.requires.which c.requires.more c.requires.there in
-    let len : length c.tie-ends.new.nodes ≡ length s.nodes.now = c.tie-ends.auto.nodes ∙ c.tie-halfway.auto.nodes ∙ length-set _ _ _ in
-    let rest = read (λ (x : Node). x.next) s.nodes.now (s.free_node - 1) c.index-self-slot.result 0 (omega (arith, room.free_in, c.requires.more)) in
-    record {
-      linked = open_sound s c.args.e c.args.p c.after-q.result c.tie-halfway.result.first c.tie-halfway.result.last _ c.index-self-slot-2.result c.tie-halfway.new.nodes c.tie-ends.new.nodes _ _ _
-          c.requires.linked c.requires.same c.requires.which c.requires.more c.requires.there refl refl c.after-q.ensures rest c.tie-halfway.ensures c.tie-ends.ensures len;
-      nodes = open_nodes s c.args.e c.args.p c.after-q.result c.tie-halfway.result.first c.tie-halfway.result.last _ c.index-self-slot-2.result c.tie-halfway.new.nodes c.tie-ends.new.nodes _ _ _
-          c.requires.linked c.requires.same c.requires.which c.requires.more c.requires.there refl refl c.after-q.ensures rest c.tie-halfway.ensures c.tie-ends.ensures len _ refl refl refl refl refl refl refl refl;
-    }
+returns c = record { nodes = open_nodes c.args.self.now c.args.e c.args.p c.requires.which c.requires.more c.requires.there _ _ _ _ c.args.pack c.splice_in.ensures c.splice_in.auto.nodes _ refl refl refl refl refl }

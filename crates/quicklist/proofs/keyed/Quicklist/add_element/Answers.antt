@@ -5,7 +5,7 @@ use Rattle.listpack.specs.Packs.{takes}
 use Rattle.nodes.proofs.NodeLaws.{flat_added}
 use Rattle.quicklist.specs.Store.{nodes_in}
 use Rattle.quicklist.proofs.Stores.{put_as, list_is, within_flat}
-use Rattle.quicklist.proofs.table.Quicklist.add_element.Goals as goal
+use Rattle.quicklist.proofs.keyed.Quicklist.add_element.Goals as goal
 
 pub returns : goal.returns
 returns c =

@@ -5,7 +5,7 @@ use Rattle.listpack.specs.Packs.{takes}
 use Rattle.nodes.proofs.NodeLaws.{flat_pushed}
 use Rattle.quicklist.specs.Store.{nodes_in}
 use Rattle.quicklist.proofs.Stores.{put_as, list_is}
-use Rattle.quicklist.proofs.table.Quicklist.add_end.Goals as goal
+use Rattle.quicklist.proofs.keyed.Quicklist.add_end.Goals as goal
 
 pub returns : goal.returns
 returns c =

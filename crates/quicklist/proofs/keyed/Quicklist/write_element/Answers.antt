@@ -3,7 +3,7 @@ use Rattle.listpack.specs.Packs.{takes, swaps}
 use Rattle.nodes.proofs.NodeLaws.{flat_changed}
 use Rattle.quicklist.specs.Store.{nodes_in}
 use Rattle.quicklist.proofs.Stores.{put_as, list_is, there_flat}
-use Rattle.quicklist.proofs.table.Quicklist.write_element.Goals as goal
+use Rattle.quicklist.proofs.keyed.Quicklist.write_element.Goals as goal
 
 pub returns : goal.returns
 returns c =

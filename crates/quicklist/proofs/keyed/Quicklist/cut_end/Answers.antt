@@ -5,7 +5,7 @@ use Rattle.store.specs.Answers.{place}
 use Rattle.nodes.specs.Nodes.{cut}
 use Rattle.quicklist.specs.Store.{lists_of, nodes_in}
 use Rattle.quicklist.proofs.Stores.{list_is}
-use Rattle.quicklist.proofs.table.Quicklist.cut_end.Goals as goal
+use Rattle.quicklist.proofs.keyed.Quicklist.cut_end.Goals as goal
 
 pub returns : goal.returns
 returns c =

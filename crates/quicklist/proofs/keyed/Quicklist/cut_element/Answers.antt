@@ -3,7 +3,7 @@ use Rattle.std.specs.List.{remove}
 use Rattle.nodes.proofs.NodeLaws.{flat_cut}
 use Rattle.quicklist.specs.Store.{nodes_in}
 use Rattle.quicklist.proofs.Stores.{put_as, list_is, there_flat}
-use Rattle.quicklist.proofs.table.Quicklist.cut_element.Goals as goal
+use Rattle.quicklist.proofs.keyed.Quicklist.cut_element.Goals as goal
 
 pub returns : goal.returns
 returns c =
