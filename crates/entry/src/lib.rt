@@ -125,6 +125,8 @@ impl Width {
 
 // ---- writing
 
+// Kept: in what follows the caller's array is filled and the length told, since all memory is lent and the bytes behind an entry or a value stay.
+
 // Writes bytes, and others behind them, to the beginning of `out`, and tells how many.
 fn put(first: &[u8], then: &[u8], out: &mut [u8]) -> usize
     requires { length first.now + length then.now ≤ length out.old }

@@ -43,6 +43,7 @@ impl<'a> Flat<'a> {
         &self.records[..self.used]
     }
 
+    // Kept: no Option, since an insert at the end of a list goes just there where this says that there is no such element.
     // Where the record of an element stands; past the records in use where there is none.
     #[tactic(auto, using(crate::proofs::Tables::in_table, crate::proofs::Tables::within_table))]
     fn position(&self, key: &[u8], index: usize) -> usize

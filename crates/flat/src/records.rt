@@ -43,6 +43,8 @@ impl TotalOrder for Record {
     }
 }
 
+// Kept: `filter` and `count` in a chain were tried, and `returns` stayed open: no lemma of the library tells how many items pass a filter.
+// How many records have the key.
 pub(crate) fn count(records: &[Record], key: &[u8]) -> usize
     ensures { result ≡ length (values_of key.now (rows records.now)) }
 {
@@ -55,6 +57,7 @@ pub(crate) fn count(records: &[Record], key: &[u8]) -> usize
     n
 }
 
+// Kept: no Option, as in `Flat::position`.
 // Where the record of `key` stands that has `index` others of it before it; the records' number where there is none.
 pub(crate) fn find(records: &[Record], key: &[u8], index: usize) -> usize
     ensures { result ≡ spot key.now index (rows records.now) }

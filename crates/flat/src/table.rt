@@ -11,6 +11,7 @@ pub struct Record {
     pub(crate) value: ValueRow,
 }
 
+// Kept: a slice with the number of records in use beside it, since the table is the host's and nothing is allocated.
 #[derive(Drop)]
 pub struct Flat<'a> {
     pub(crate) records: &'a mut [Record],

@@ -15,6 +15,7 @@ use store::LONGEST_VALUE;
 // The most bytes that a listpack has.
 pub const MOST_BYTES: usize = 508;
 
+// Kept: an array of the largest size, since listpacks lie in nodes of a table that the host lends.
 #[derive(Clone, Copy)]
 pub struct Listpack {
     bytes: [u8; MOST_BYTES],
@@ -74,7 +75,7 @@ impl Listpack {
         ensures most { result ≤ most_bytes }
         ensures said { result ≡ total (values_in self.now) }
     {
-        self.bytes[0] as usize + 256 * self.bytes[1] as usize
+        u16::from_le_bytes([self.bytes[0], self.bytes[1]]) as usize
     }
 
     // How many values it holds.
@@ -82,7 +83,7 @@ impl Listpack {
         ensures value { result ≡ length (values_in self.now) }
         ensures few { result ≤ 250 }
     {
-        self.bytes[4] as usize + 256 * self.bytes[5] as usize
+        u16::from_le_bytes([self.bytes[4], self.bytes[5]]) as usize
     }
 
     // Its bytes, from the length to the final FF.
@@ -102,7 +103,7 @@ impl Listpack {
         ensures below { result < total (values_in self.now) }
     {
         let mut at = from;
-        for _i in index..next {
+        for _ in index..next {
             at += span(&self.bytes[at..]).unwrap();
         }
         at

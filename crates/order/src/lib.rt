@@ -14,6 +14,7 @@ use std::cmp::Ordering;
 // The most bytes that a key has.
 pub const LONGEST_KEY: usize = 32;
 
+// Kept: not std's `Ord`, which asks that values which are equal to the order are equal values; rows that read alike may differ in bytes that are not read.
 // A type whose values stand in a total order by what they read as: two that read alike are one to the order.
 pub trait TotalOrder {
     // What values read as, how they are read, and how readings are ordered.
@@ -108,6 +109,7 @@ fn compare_keys(a: &[u8], b: &[u8]) -> Ordering
 
 // At most N bytes in place, as a plain part of a table's row: how many are its own, and room for all. Every such row has bytes,
 // since a length past N reads as N. A length is one byte, so that there are 255 at the most.
+// Kept: an array with a length beside it, since tables are rows of memory that the host lends, and nothing is allocated.
 #[derive(Clone, Copy)]
 pub struct ShortBytes<const N: usize> {
     pub len: u8,

@@ -36,6 +36,7 @@ pub struct Writer<'a> {
     pub place: usize,
 }
 
+// Kept: a kind is told to the private functions by its mark, the very byte that is written; an enum of the kinds would only be turned into it.
 // Each function that writes a reply tells its bytes, and moves the place behind them; one that cannot, because the reply is
 // none or there is no room for it, leaves the output and the place as they were.
 impl<'a> Writer<'a> {

@@ -65,6 +65,7 @@ pub trait ListEnds {
     fn len(&self, key: &[u8]) -> usize
         ensures { result ≡ length (at (lists self.now) key.now) };
 
+    // Kept: the caller's array is filled and the length told, here and in `pop` and `key_at`, since all memory is lent and the bytes behind the copy stay.
     // Copies the value at an index of a key's list to the beginning of `out`, and tells its length; none past the list's end.
     fn value_at(&self, key: &[u8], index: usize, out: &mut [u8; LONGEST_VALUE]) -> Option<usize>
         ensures { Copied longest_value (at (lists self.now) key.now) index out.old out.new result };

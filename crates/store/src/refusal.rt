@@ -14,6 +14,7 @@ pub enum Refusal {
     OutOfRange,
 }
 
+// Kept: refusals have numbers, since the project's rules give them; code answers the enum, and the number is made from it here alone.
 // The number of the refusal.
 impl From<Refusal> for u8 {
     ghost from_gives = { λ refusal number. number ≡ refusal_number refusal };

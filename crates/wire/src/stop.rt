@@ -9,6 +9,7 @@ pub enum ReadError {
     Fault(usize),
 }
 
+// Kept: a type of its own beside `ReadError`, though of the same shape: this one counts from the end, that one from the front, and one type would let them be mixed.
 // Why a step did not pass what it reads: the bytes ended, or a byte cannot stand where it stands; then how many bytes there are from it on.
 #[derive(Clone, Copy)]
 pub enum Stop {

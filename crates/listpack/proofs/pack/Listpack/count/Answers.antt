@@ -4,4 +4,4 @@ use Rattle.listpack.proofs.PackLaws.{held_few}
 use Rattle.listpack.proofs.pack.Listpack.count.Goals as goal
 
 pub returns : goal.returns
-returns c = let e = count_held c.args.self.now in record { value = e; few = omega (arith, held_few c.args.self.now) }
+returns c = let s = c.args.self.now in record { value = omega (arith, c.from_le_bytes.ensures, count_held s); few = omega (arith, c.from_le_bytes.ensures, count_held s, held_few s) }

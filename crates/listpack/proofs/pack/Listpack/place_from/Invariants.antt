@@ -3,5 +3,5 @@ use Rattle.listpack.specs.Packs.{values_in}
 use Rattle.listpack.specs.Places.{place}
 use Rattle.listpack.proofs.pack.Listpack.place_from.Given as goal
 
-abbrev pub invariant-loop-i : goal.invariant-loop-i
-invariant-loop-i l = l.at ≡ place (values_in l.self) l._i
+abbrev pub invariant-loop : goal.invariant-loop
+invariant-loop l = l.at ≡ place (values_in l.self) l.counter

@@ -4,4 +4,7 @@ use Rattle.listpack.proofs.PackLaws.{held_fits}
 use Rattle.listpack.proofs.pack.Listpack.size.Goals as goal
 
 pub returns : goal.returns
-returns c = let e = size_held c.args.self.now in record { some = omega arith; most = omega (arith, held_fits c.args.self.now); said = e }
+returns c =
+    let s = c.args.self.now in
+    let e = size_held s in
+    record { some = omega (arith, c.from_le_bytes.ensures, e); most = omega (arith, c.from_le_bytes.ensures, e, held_fits s); said = omega (arith, c.from_le_bytes.ensures, e) }
