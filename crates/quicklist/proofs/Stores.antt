@@ -11,13 +11,15 @@ use Rattle.nodes.specs.Books.{rows_in_book}
 use Rattle.nodes.proofs.BookLaws.{shown}
 use Rattle.quicklist.specs.declared.table.Tables.{Tables}
 use Rattle.quicklist.specs.declared.keyed.Quicklist.{Quicklist}
-use Rattle.quicklist.specs.Tables.{book_of, Whole}
+use Rattle.quicklist.specs.Tables.{room, book_of, Whole}
 use Rattle.quicklist.specs.Laws.{rows_held}
 use Rattle.quicklist.specs.Store.{lists_of, nodes_in, Changed}
+use Rattle.quicklist.specs.Changes.{Recut}
 
--- the lists after a change, where the nodes are cut as a rule says and hold what they should
-pub put_as : (t t' : Tables) (k : Key) (ns : Nodes) (vs : List Value) → Changed t t' k ns → flat ns ≡ vs → lists_of t' ≡ put (lists_of t) k vs
-put_as t t' k ns vs c e = c.lists ∙ ap (put (lists_of t) k) e
+-- what a change of one list leaves of the store, where the nodes hold what they should
+pub entered : (t t' : Tables) (k : Key) (ns : Nodes) (vs : List Value) → Changed t t' k ns → flat ns ≡ vs
+    → record { kept : room t' ≡ room t; lists : lists_of t' ≡ put (lists_of t) k vs; nodes : Recut (nodes_in t) (nodes_in t') k ns }
+entered t t' k ns vs c e = record { kept = c.kept; lists = c.lists ∙ ap (put (lists_of t) k) e; nodes = (c.nodes, c.others) }
 
 pub list_is : (t : Tables) (k : Key) → flat (nodes_in t k) ≡ at (lists_of t) k
 list_is t k = sym (shown (book_of t) k)

@@ -44,6 +44,7 @@ fn number_at(e: usize) -> u16
     e as u16 + 1
 }
 
+// Kept: `Whole` is asked of the five changes below and is no fact of `Tables`: each of them writes the nodes first and the counts after, and in between it does not hold.
 impl<'a> Tables<'a> {
     // The tables with all nodes and all list records free.
     pub(crate) fn cleared(nodes: &'a mut [Node], lists: &'a mut [ListRecord]) -> Tables<'a>
