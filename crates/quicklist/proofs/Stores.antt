@@ -12,7 +12,7 @@ use Rattle.nodes.proofs.BookLaws.{shown}
 use Rattle.quicklist.specs.declared.table.Tables.{Tables}
 use Rattle.quicklist.specs.declared.keyed.Quicklist.{Quicklist}
 use Rattle.quicklist.specs.Tables.{room, book_of, Whole}
-use Rattle.quicklist.specs.Laws.{rows_held}
+use Rattle.quicklist.specs.Laws.{rows_held, room_of, lists_in, quicklist_laws}
 use Rattle.quicklist.specs.Store.{lists_of, nodes_in, Changed}
 use Rattle.quicklist.specs.Changes.{Recut}
 
@@ -31,6 +31,13 @@ no_rows (p ∷ ps) e = absurd (omega arith)
 
 pub held_is : (q : Quicklist) → q.tables.held ≡ elements (lists_of q.tables)
 held_is q = sym (held_rows (rows_in_book (book_of q.tables)) ∙ rows_held q.tables q.whole.sized q.whole.totalled)
+
+-- where it is not full, its count is below its room
+pub room_more : (q : Quicklist) (held room : ℕ) → held ≡ elements (lists_in q) → room ≡ room_of q → (held ≡ room → ⊥) → elements (lists_in q) < room_of q
+room_more q held room h r n = omega (arith, (quicklist_laws q).fits, h, r, n)
+
+pub counted : (q : Quicklist) → elements (lists_in q) < room_of q → q.tables.held < room_of q
+counted q l = omega (arith, l, held_is q)
 
 pub there_flat : (t : Tables) (k : Key) (i : ℕ) → i < length (at (lists_of t) k) → i < length (flat (nodes_in t k))
 there_flat t k i l = omega (arith, ap length (list_is t k))

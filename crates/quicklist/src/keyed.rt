@@ -13,6 +13,7 @@ ghost use Rattle.quicklist.specs.Props.{Whole-prop};
 ghost use Rattle.quicklist.specs.Store.{Placed};
 ghost use Rattle.quicklist.specs.Changes.{Recut};
 
+use crate::packs::ShortValue;
 use crate::table::Tables;
 use order::KeyRow;
 use records::{find, ranked};
@@ -25,14 +26,6 @@ pub struct Quicklist<'a> {
     ghost whole: { Whole tables } by { Whole-prop tables },
 }
 
-// Copies bytes to the beginning of `out`; those behind them stay.
-fn lay(out: &mut [u8], bytes: &[u8])
-    requires { length bytes.now ≤ length out.old }
-    ensures { out.new ≡ over out.old bytes.now }
-{
-    out[0..bytes.len()].copy_from_slice(bytes);
-}
-
 impl<'a> Quicklist<'a> {
     ghost use Rattle.quicklist.specs.Laws.{room_of, lists_in, nodes_for};
 
@@ -42,23 +35,6 @@ impl<'a> Quicklist<'a> {
     {
         let lists = &*self.tables.lists;
         find(lists, key)
-    }
-
-    // How many elements there are.
-    pub(crate) fn elements_held(&self) -> usize
-        ensures value { result ≡ elements (lists_in self.now) }
-        ensures counted { result ≡ self.now.tables.held }
-    {
-        self.tables.held
-    }
-
-    // Whether there is no place for one more.
-    pub(crate) fn is_full(&self) -> bool
-        ensures test { Decides result (elements (lists_in self.now) ≡ room_of self.now) }
-        ensures room { result ≡ false → self.now.tables.held < room_of self.now }
-    {
-        let held = self.elements_held();
-        held == self.tables.nodes.len()
     }
 
     // How many elements the list of a key has.
@@ -96,19 +72,16 @@ impl<'a> Quicklist<'a> {
     {
         let lists = &*self.tables.lists;
         let e = ranked(lists, rank)?;
-        let it = self.tables.lists[e];
-        let key = it.name.as_bytes();
-        lay(out, key);
-        Some(key.len())
+        Some(lists[e].name.copy_to(out))
     }
 
     // Adds an element at a side of a key's list.
-    pub(crate) fn add_end(&mut self, side: Side, name: KeyRow, value: &[u8])
-        requires room { self.old.tables.held < room_of self.old }
-        requires short { length value.now ≤ longest_value }
+    #[tactic(auto, using(crate::proofs::Stores::counted))]
+    pub(crate) fn add_end(&mut self, side: Side, name: KeyRow, value: &ShortValue<'_>)
+        requires room { elements (lists_in self.old) < room_of self.old }
         ensures kept { room_of self.new ≡ room_of self.old }
-        ensures lists { lists_in self.new ≡ put (lists_in self.old) (key_in name) (joined side (at (lists_in self.old) (key_in name)) value.now) }
-        ensures nodes { Recut (nodes_for self.old) (nodes_for self.new) (key_in name) (pushed takes side (nodes_for self.old (key_in name)) value.now) }
+        ensures lists { lists_in self.new ≡ put (lists_in self.old) (key_in name) (joined side (at (lists_in self.old) (key_in name)) value.now.bytes.now) }
+        ensures nodes { Recut (nodes_for self.old) (nodes_for self.new) (key_in name) (pushed takes side (nodes_for self.old (key_in name)) value.now.bytes.now) }
     {
         let Some(e) = self.place_of(name.as_bytes()) else {
             self.tables.add_new(name, value);
@@ -118,25 +91,24 @@ impl<'a> Quicklist<'a> {
     }
 
     // Writes a value over an element of a key's list.
-    pub(crate) fn write_element(&mut self, key: &[u8], index: usize, value: &[u8])
+    pub(crate) fn write_element(&mut self, key: &[u8], index: usize, value: &ShortValue<'_>)
         requires within { index < length (at (lists_in self.old) key.now) }
-        requires short { length value.now ≤ longest_value }
         ensures kept { room_of self.new ≡ room_of self.old }
-        ensures lists { lists_in self.new ≡ put (lists_in self.old) key.now (slice_set (at (lists_in self.old) key.now) index value.now) }
-        ensures nodes { Recut (nodes_for self.old) (nodes_for self.new) key.now (changed takes swaps (nodes_for self.old key.now) index value.now) }
+        ensures lists { lists_in self.new ≡ put (lists_in self.old) key.now (slice_set (at (lists_in self.old) key.now) index value.now.bytes.now) }
+        ensures nodes { Recut (nodes_for self.old) (nodes_for self.new) key.now (changed takes swaps (nodes_for self.old key.now) index value.now.bytes.now) }
     {
         let e = self.place_of(key).unwrap();
         self.tables.write_over(e, index, value);
     }
 
     // Adds an element before one of a key's list, or at its end.
-    pub(crate) fn add_element(&mut self, name: KeyRow, index: usize, value: &[u8])
-        requires room { self.old.tables.held < room_of self.old }
+    #[tactic(auto, using(crate::proofs::Stores::counted))]
+    pub(crate) fn add_element(&mut self, name: KeyRow, index: usize, value: &ShortValue<'_>)
+        requires room { elements (lists_in self.old) < room_of self.old }
         requires within { index ≤ length (at (lists_in self.old) (key_in name)) }
-        requires short { length value.now ≤ longest_value }
         ensures kept { room_of self.new ≡ room_of self.old }
-        ensures lists { lists_in self.new ≡ put (lists_in self.old) (key_in name) (insert (at (lists_in self.old) (key_in name)) index value.now) }
-        ensures nodes { Recut (nodes_for self.old) (nodes_for self.new) (key_in name) (added takes (nodes_for self.old (key_in name)) index value.now) }
+        ensures lists { lists_in self.new ≡ put (lists_in self.old) (key_in name) (insert (at (lists_in self.old) (key_in name)) index value.now.bytes.now) }
+        ensures nodes { Recut (nodes_for self.old) (nodes_for self.new) (key_in name) (added takes (nodes_for self.old (key_in name)) index value.now.bytes.now) }
     {
         let Some(e) = self.place_of(name.as_bytes()) else {
             self.tables.add_new(name, value);

@@ -22,10 +22,11 @@ mod ties;
 mod whole;
 
 pub use keyed::Quicklist;
-use order::KeyRow;
+use packs::ShortValue;
 pub use records::ListRecord;
 use store::{
     LARGEST_STORE, LONGEST_KEY, LONGEST_VALUE, ListEnds, Refusal, Side, Unfit, WholeLists,
+    ask_insert, ask_remove, ask_rows, ask_set,
 };
 pub use table::Node;
 use table::Tables;
@@ -66,18 +67,6 @@ fn empty_over<'a>(nodes: &'a mut [Node], lists: &'a mut [ListRecord]) -> Quickli
     }
 }
 
-// The index of the element on a side of a list of n elements.
-fn end_index(side: Side, n: usize) -> usize
-    requires { 0 < n }
-    ensures place { result ≡ place side n }
-    ensures within { result < n }
-{
-    match side {
-        Side::Left => 0,
-        Side::Right => n - 1,
-    }
-}
-
 impl<'a> ListEnds for Quicklist<'a> {
     ghost room = { room_of };
 
@@ -89,8 +78,9 @@ impl<'a> ListEnds for Quicklist<'a> {
         self.tables.nodes.len()
     }
 
+    #[tactic(auto, using(crate::proofs::Stores::held_is))]
     fn held(&self) -> usize {
-        self.elements_held()
+        self.tables.held
     }
 
     fn len(&self, key: &[u8]) -> usize {
@@ -104,21 +94,17 @@ impl<'a> ListEnds for Quicklist<'a> {
         Some(self.copy_element(key, index, out))
     }
 
+    #[tactic(auto, using(crate::proofs::Stores::room_more))]
     fn push(&mut self, side: Side, key: &[u8], value: &[u8]) -> Result<(), Refusal>
         ensures kept { room_of self.new ≡ room_of self.old }
         ensures pushed { Pushed (room_of self.old) (lists_in self.old) (lists_in self.new) side key.now value.now result }
         ensures nodes { NodesPushed (nodes_for self.old) (nodes_for self.new) side key.now value.now result }
     {
-        let Ok(name) = KeyRow::try_from(key) else {
-            return Err(Refusal::LongKey);
-        };
-        if value.len() > LONGEST_VALUE {
-            return Err(Refusal::LongValue);
-        }
-        if self.is_full() {
+        let (name, value) = ask_rows(key, value)?;
+        if self.held() == self.capacity() {
             return Err(Refusal::Full);
         }
-        self.add_end(side, name, value);
+        self.add_end(side, name, &ShortValue::from(&value));
         Ok(())
     }
 
@@ -127,13 +113,9 @@ impl<'a> ListEnds for Quicklist<'a> {
         ensures popped { Popped (lists_in self.old) (lists_in self.new) side key.now out.old out.new result }
         ensures nodes { NodesPopped (nodes_for self.old) (nodes_for self.new) side key.now result }
     {
-        let n = self.len(key);
-        if n == 0 {
-            return None;
-        }
-        let i = end_index(side, n);
-        let size = self.copy_element(key, i, out);
-        self.cut_end(side, key, i);
+        let end = side.index_in(self.len(key));
+        let size = self.value_at(key, end, out)?;
+        self.cut_end(side, key, end);
         Some(size)
     }
 
@@ -148,16 +130,8 @@ impl<'a> WholeLists for Quicklist<'a> {
         ensures was_set { WasSet (lists_in self.old) (lists_in self.new) key.now index value.now result }
         ensures nodes { NodesSet (nodes_for self.old) (nodes_for self.new) key.now index value.now result }
     {
-        if key.len() > LONGEST_KEY {
-            return Err(Refusal::LongKey);
-        }
-        if value.len() > LONGEST_VALUE {
-            return Err(Refusal::LongValue);
-        }
-        if index >= self.len(key) {
-            return Err(Refusal::OutOfRange);
-        }
-        self.write_element(key, index, value);
+        let (_, value) = ask_set(&*self, key, index, value)?;
+        self.write_element(key, index, &ShortValue::from(&value));
         Ok(())
     }
 
@@ -166,19 +140,8 @@ impl<'a> WholeLists for Quicklist<'a> {
         ensures inserted { Inserted (room_of self.old) (lists_in self.old) (lists_in self.new) key.now index value.now result }
         ensures nodes { NodesInserted (nodes_for self.old) (nodes_for self.new) key.now index value.now result }
     {
-        let Ok(name) = KeyRow::try_from(key) else {
-            return Err(Refusal::LongKey);
-        };
-        if value.len() > LONGEST_VALUE {
-            return Err(Refusal::LongValue);
-        }
-        if self.is_full() {
-            return Err(Refusal::Full);
-        }
-        if index > self.len(key) {
-            return Err(Refusal::OutOfRange);
-        }
-        self.add_element(name, index, value);
+        let (name, value) = ask_insert(&*self, key, index, value)?;
+        self.add_element(name, index, &ShortValue::from(&value));
         Ok(())
     }
 
@@ -187,12 +150,7 @@ impl<'a> WholeLists for Quicklist<'a> {
         ensures removed { Removed (lists_in self.old) (lists_in self.new) key.now index result }
         ensures nodes { NodesRemoved (nodes_for self.old) (nodes_for self.new) key.now index result }
     {
-        if key.len() > LONGEST_KEY {
-            return Err(Refusal::LongKey);
-        }
-        if index >= self.len(key) {
-            return Err(Refusal::OutOfRange);
-        }
+        ask_remove(&*self, key, index)?;
         self.cut_element(key, index);
         Ok(())
     }

@@ -7,26 +7,25 @@ ghost use Rattle.listpack.specs.Packs.{takes, swaps};
 ghost use Rattle.nodes.specs.Nodes.{flat, put_in, pushed, unless_empty, cut, added};
 ghost use Rattle.quicklist.specs.Tables.{room, links_of, numbers, nodes_of, values_at, count_at, end_node, end_place, node_before, Located, Relisted, Replaced};
 
-use crate::packs::divide;
+use crate::packs::{ShortValue, divide};
 use crate::table::Tables;
 use listpack::Listpack;
 use store::Side;
 
 impl<'a> Tables<'a> {
     // Adds a value before the one at j of a node. A node that does not take it is cut there.
-    fn put_in(&mut self, e: usize, n: u16, j: usize, value: &[u8])
+    fn put_in(&mut self, e: usize, n: u16, j: usize, value: &ShortValue<'_>)
         requires which { e < room self.old }
         requires more { 0 < self.old.free_node }
         requires there { 0 < tally n (numbers self.old e) }
         requires place { j ≤ length (values_at self.old.nodes.now n) }
-        requires short { length value.now ≤ longest_value }
         ensures nodes { (ls rs : List ℕ) → numbers self.old e ≡ ls ++ n ∷ rs
             → Relisted self.old self.new e (map (values_at self.old.nodes.now) ls
-            ++ (put_in takes (values_at self.old.nodes.now n) j value.now ++ map (values_at self.old.nodes.now) rs)) }
+            ++ (put_in takes (values_at self.old.nodes.now n) j value.now.bytes.now ++ map (values_at self.old.nodes.now) rs)) }
     {
         let nodes = &mut *self.nodes;
         let pack = &mut nodes[n as usize - 1].pack;
-        if pack.insert(j, value).is_ok() {
+        if pack.insert(j, value.bytes).is_ok() {
             return;
         }
         let right = divide(pack, j, value);
@@ -34,16 +33,15 @@ impl<'a> Tables<'a> {
     }
 
     // Puts a node with the one value into a list, after its node p or before all where p is 0.
-    fn open_with(&mut self, e: usize, p: u16, value: &[u8])
+    fn open_with(&mut self, e: usize, p: u16, value: &ShortValue<'_>)
         requires which { e < room self.old }
         requires more { 0 < self.old.free_node }
         requires there { 0 < tally p (0 ∷ numbers self.old e) }
-        requires short { length value.now ≤ longest_value }
         ensures nodes { (ls rs : List ℕ) → numbers self.old e ≡ ls ++ rs → p ≡ last_or 0 ls
-            → Relisted self.old self.new e (map (values_at self.old.nodes.now) ls ++ (value.now ∷ []) ∷ map (values_at self.old.nodes.now) rs) }
+            → Relisted self.old self.new e (map (values_at self.old.nodes.now) ls ++ (value.now.bytes.now ∷ []) ∷ map (values_at self.old.nodes.now) rs) }
     {
         let mut pack = Listpack::empty();
-        pack.prepend(value).unwrap();
+        pack.prepend(value.bytes).unwrap();
         self.open(e, p, pack);
     }
 
@@ -90,11 +88,10 @@ impl<'a> Tables<'a> {
     }
 
     // Adds a value at a side of a list: in the node there, if it fits, else in a new node.
-    pub(crate) fn push_in(&mut self, e: usize, side: Side, value: &[u8])
+    pub(crate) fn push_in(&mut self, e: usize, side: Side, value: &ShortValue<'_>)
         requires which { e < room self.old }
         requires more { 0 < self.old.free_node }
-        requires short { length value.now ≤ longest_value }
-        ensures nodes { Relisted self.old self.new e (pushed takes side (nodes_of self.old e) value.now) }
+        ensures nodes { Relisted self.old self.new e (pushed takes side (nodes_of self.old e) value.now.bytes.now) }
     {
         let n = self.end_of(e, side);
         if n == 0 {
@@ -104,7 +101,7 @@ impl<'a> Tables<'a> {
         let j = self.end_place(side, n);
         let nodes = &mut *self.nodes;
         let pack = &mut nodes[n as usize - 1].pack;
-        if pack.insert(j, value).is_ok() {
+        if pack.insert(j, value.bytes).is_ok() {
             return;
         }
         let p = node_before(side, n);
@@ -112,18 +109,17 @@ impl<'a> Tables<'a> {
     }
 
     // Writes a value over the one at j of a node, if it fits.
-    fn write_in(&mut self, e: usize, n: u16, j: usize, value: &[u8]) -> bool
+    fn write_in(&mut self, e: usize, n: u16, j: usize, value: &ShortValue<'_>) -> bool
         requires which { e < room self.old }
         requires there { 0 < tally n (numbers self.old e) }
         requires place { j < length (values_at self.old.nodes.now n) }
-        requires short { length value.now ≤ longest_value }
-        ensures told { result ≡ swaps (values_at self.old.nodes.now n) j value.now }
+        ensures told { result ≡ swaps (values_at self.old.nodes.now n) j value.now.bytes.now }
         ensures nodes { (ls rs : List ℕ) → numbers self.old e ≡ ls ++ n ∷ rs
             → Relisted self.old self.new e (map (values_at self.old.nodes.now) ls
-            ++ (if result then slice_set (values_at self.old.nodes.now n) j value.now else values_at self.old.nodes.now n) ∷ map (values_at self.old.nodes.now) rs) }
+            ++ (if result then slice_set (values_at self.old.nodes.now n) j value.now.bytes.now else values_at self.old.nodes.now n) ∷ map (values_at self.old.nodes.now) rs) }
     {
         let nodes = &mut *self.nodes;
-        nodes[n as usize - 1].pack.replace(j, value).is_ok()
+        nodes[n as usize - 1].pack.replace(j, value.bytes).is_ok()
     }
 
     // Takes the value at j out of a node. A node left empty goes out of the list.
@@ -180,14 +176,13 @@ impl<'a> Tables<'a> {
     }
 
     // Adds a value before the one at an index of a list, or at the end of its last node.
-    pub(crate) fn insert_in(&mut self, e: usize, index: usize, value: &[u8])
+    pub(crate) fn insert_in(&mut self, e: usize, index: usize, value: &ShortValue<'_>)
         requires which { e < room self.old }
         requires more { 0 < self.old.free_node }
         requires used { 0 < length (nodes_of self.old e) }
         requires counted { count_at self.old.lists.now e ≡ length (flat (nodes_of self.old e)) }
         requires there { index ≤ length (flat (nodes_of self.old e)) }
-        requires short { length value.now ≤ longest_value }
-        ensures nodes { Relisted self.old self.new e (added takes (nodes_of self.old e) index value.now) }
+        ensures nodes { Relisted self.old self.new e (added takes (nodes_of self.old e) index value.now.bytes.now) }
     {
         if index < self.lists[e].count as usize {
             let spot = self.locate(e, index);
@@ -211,12 +206,11 @@ impl<'a> Tables<'a> {
     }
 
     // Writes a value over the one at an index of a list, if its node takes it.
-    pub(crate) fn replace_in(&mut self, e: usize, index: usize, value: &[u8]) -> bool
+    pub(crate) fn replace_in(&mut self, e: usize, index: usize, value: &ShortValue<'_>) -> bool
         requires which { e < room self.old }
         requires counted { count_at self.old.lists.now e ≡ length (flat (nodes_of self.old e)) }
         requires there { index < length (flat (nodes_of self.old e)) }
-        requires short { length value.now ≤ longest_value }
-        ensures nodes { Replaced self.old self.new e index value.now result }
+        ensures nodes { Replaced self.old self.new e index value.now.bytes.now result }
     {
         let spot = self.locate(e, index);
         self.write_in(e, spot.node, spot.place, value)

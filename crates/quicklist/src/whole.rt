@@ -7,6 +7,7 @@ ghost use Rattle.nodes.specs.Nodes.{flat, pushed, added, cut, changed};
 ghost use Rattle.records.specs.Records.{key_at};
 ghost use Rattle.quicklist.specs.Tables.{room, nodes_of, Whole, Enough, Downward, Threaded, Written, Rebooked};
 
+use crate::packs::ShortValue;
 use crate::table::{Node, Tables};
 use order::KeyRow;
 use records::ListRecord;
@@ -82,13 +83,12 @@ impl<'a> Tables<'a> {
     }
 
     // Adds a value at a side of a list that has one.
-    pub(crate) fn add_end(&mut self, e: usize, side: Side, value: &[u8])
+    pub(crate) fn add_end(&mut self, e: usize, side: Side, value: &ShortValue<'_>)
         requires whole { Whole self.old }
         requires which { e < room self.old }
         requires used { 0 < length (nodes_of self.old e) }
         requires more { self.old.held < room self.old }
-        requires short { length value.now ≤ longest_value }
-        ensures { Rebooked self.old self.new e (key_at self.old.lists.now e) (pushed takes side (nodes_of self.old e) value.now) }
+        ensures { Rebooked self.old self.new e (key_at self.old.lists.now e) (pushed takes side (nodes_of self.old e) value.now.bytes.now) }
     {
         self.push_in(e, side, value);
         let it = self.lists[e];
@@ -97,14 +97,13 @@ impl<'a> Tables<'a> {
     }
 
     // Adds a value before the one at an index of a list that has one, or at its end.
-    pub(crate) fn add_before(&mut self, e: usize, index: usize, value: &[u8])
+    pub(crate) fn add_before(&mut self, e: usize, index: usize, value: &ShortValue<'_>)
         requires whole { Whole self.old }
         requires which { e < room self.old }
         requires used { 0 < length (nodes_of self.old e) }
         requires more { self.old.held < room self.old }
         requires there { index ≤ length (flat (nodes_of self.old e)) }
-        requires short { length value.now ≤ longest_value }
-        ensures { Rebooked self.old self.new e (key_at self.old.lists.now e) (added takes (nodes_of self.old e) index value.now) }
+        ensures { Rebooked self.old self.new e (key_at self.old.lists.now e) (added takes (nodes_of self.old e) index value.now.bytes.now) }
     {
         self.insert_in(e, index, value);
         let it = self.lists[e];
@@ -113,14 +112,13 @@ impl<'a> Tables<'a> {
     }
 
     // Makes a list of the one value, in the first free record.
-    pub(crate) fn add_new(&mut self, name: KeyRow, value: &[u8])
+    pub(crate) fn add_new(&mut self, name: KeyRow, value: &ShortValue<'_>)
         requires whole { Whole self.old }
         requires more { self.old.held < room self.old }
         requires absent { (i : ℕ) → i < room self.old → 0 < length (nodes_of self.old i) → key_at self.old.lists.now i ≢ key_in name }
-        requires short { length value.now ≤ longest_value }
         ensures place { self.old.free_list - 1 < room self.old }
         ensures free { length (nodes_of self.old (self.old.free_list - 1)) ≡ 0 }
-        ensures booked { Rebooked self.old self.new (self.old.free_list - 1) (key_in name) ((value.now ∷ []) ∷ []) }
+        ensures booked { Rebooked self.old self.new (self.old.free_list - 1) (key_in name) ((value.now.bytes.now ∷ []) ∷ []) }
     {
         let e = self.free_list as usize - 1;
         self.push_in(e, Side::Right, value);
@@ -151,12 +149,11 @@ impl<'a> Tables<'a> {
     }
 
     // Writes a value over the one at an index of a list: in its node, if that takes it, else by a removal and an insert.
-    pub(crate) fn write_over(&mut self, e: usize, index: usize, value: &[u8])
+    pub(crate) fn write_over(&mut self, e: usize, index: usize, value: &ShortValue<'_>)
         requires whole { Whole self.old }
         requires which { e < room self.old }
         requires there { index < length (flat (nodes_of self.old e)) }
-        requires short { length value.now ≤ longest_value }
-        ensures { Rebooked self.old self.new e (key_at self.old.lists.now e) (changed takes swaps (nodes_of self.old e) index value.now) }
+        ensures { Rebooked self.old self.new e (key_at self.old.lists.now e) (changed takes swaps (nodes_of self.old e) index value.now.bytes.now) }
     {
         if self.replace_in(e, index, value) {
             return;

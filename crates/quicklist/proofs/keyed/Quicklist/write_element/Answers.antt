@@ -17,14 +17,14 @@ place c = rw c.unwrap-e.ensures at c.place_of.ensures
 pub write_over-requires : goal.write_over-requires
 write_over-requires c =
     let p = place (goal.at.write_over-requires c).After-unwrap-e in
-    record { whole = c.args.self.now.whole; which = p.0; there = omega (arith, c.requires.within, ap length (at_here c.args.self.now.tables c.args.self.now.whole c.unwrap-e.result c.args.key.now p)); short = c.requires.short }
+    record { whole = c.args.self.now.whole; which = p.0; there = omega (arith, c.requires.within, ap length (at_here c.args.self.now.tables c.args.self.now.whole c.unwrap-e.result c.args.key.now p)) }
 
 pub returns : goal.returns
 returns c =
     let t = c.args.self.now.tables in
     let k = c.args.key.now in
     let i = c.args.index in
-    let v = c.args.value.now in
+    let v = c.args.value.now.bytes.now in
     entered t c.write_over.new.self k _ _
     (changed_here t c.args.self.now.whole c.unwrap-e.result k (place (goal.at.returns c).After-unwrap-e) c.write_over.new.self (λ ns. changed takes swaps ns i v) c.write_over.ensures)
     (flat_changed takes swaps (nodes_in t k) i v (there_flat t k i c.requires.within) ∙ ap (λ vs. set vs i v) (list_is t k))

@@ -17,19 +17,18 @@ insert_in-requires c =
       used = c.requires.used;
       counted = w.counted c.args.e c.requires.which;
       there = c.requires.there;
-      short = c.requires.short;
     }
 
 pub overflow_add-it : goal.overflow_add-it
 overflow_add-it c =
     let s = c.args.self.now in
-    record { fits = omega (arith, it_small s c.insert_in.new.self c.args.e (added takes (nodes_of s c.args.e) c.args.index c.args.value.now) blank c.requires.whole c.requires.which c.insert_in.ensures.nodes) }
+    record { fits = omega (arith, it_small s c.insert_in.new.self c.args.e (added takes (nodes_of s c.args.e) c.args.index c.args.value.now.bytes.now) blank c.requires.whole c.requires.which c.insert_in.ensures.nodes) }
 
 pub returns : goal.returns
 returns c =
     let s = c.args.self.now in
     let ns = nodes_of s c.args.e in
-    let v = c.args.value.now in
+    let v = c.args.value.now.bytes.now in
     grown s c.insert_in.new.self c.args.e _ _ c.requires.whole c.requires.which c.insert_in.ensures.nodes c.write_record.new.self c.requires.used c.insert_in.new.self.linked
-    (filled_added takes ns c.args.index v (lone v c.requires.short) (loaded_filled s c.requires.whole c.args.e c.requires.which)) c.requires.more c.write_record.ensures
+    (filled_added takes ns c.args.index v (lone v c.args.value.now.short) (loaded_filled s c.requires.whole c.args.e c.requires.which)) c.requires.more c.write_record.ensures
     (ap length (flat_added takes ns c.args.index v c.requires.there) ∙ length-insert (flat ns) c.args.index v c.requires.there) _ _

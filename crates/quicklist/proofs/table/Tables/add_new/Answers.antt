@@ -10,7 +10,7 @@ pub push_in-requires : goal.push_in-requires
 push_in-requires c =
     let s = c.args.self.now in
     let w = c.requires.whole in
-    record { which = new_within s w c.requires.more; more = node_left s w c.requires.more; short = c.requires.short }
+    record { which = new_within s w c.requires.more; more = node_left s w c.requires.more }
 
 pub bounds-self-e : goal.bounds-self-e
 bounds-self-e c = omega (arith, new_within c.args.self.now c.requires.whole c.requires.more, c.push_in.ensures.nodes.lists, c.requires.whole.sized.0)
@@ -24,5 +24,5 @@ returns c =
     record {
       place = new_within s c.requires.whole c.requires.more;
       free = new_none s c.requires.whole c.requires.more;
-      booked = created s c.requires.whole c.requires.more c.push_in.new.self c.write_record.new.self (key_in c.args.name) c.args.value.now c.requires.absent c.push_in.ensures.nodes c.push_in.new.self.linked c.write_record.ensures _ _;
+      booked = created s c.requires.whole c.requires.more c.push_in.new.self c.write_record.new.self (key_in c.args.name) c.args.value.now.bytes.now c.requires.absent c.push_in.ensures.nodes c.push_in.new.self.linked c.write_record.ensures _ _;
     }

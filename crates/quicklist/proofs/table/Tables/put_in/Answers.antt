@@ -20,7 +20,7 @@ pub returns-then-is_ok : goal.returns-then-is_ok
 returns-then-is_ok c =
     let s = c.args.self.now in
     let n = c.args.n in
-    let v = c.args.value.now in
+    let v = c.args.value.now.bytes.now in
     let us = values_at s.nodes.now n in
     let d = c.index-nodes-n.result in
     let x = c.insert.ensures in
@@ -29,7 +29,7 @@ returns-then-is_ok c =
     let ok = sym c.if-is_ok.true ∙ c.is_ok.ensures.value in
     let re = repacked_refills s.nodes.now n d c.insert.new.self _ w.0 w.1 (left_ok c.insert.result ok x.ok ∙ ap (λ vs. insert vs c.args.j v) h) in
     let len = repacked_long s.nodes.now n d c.insert.new.self in
-    let t : true ≡ takes us v = told_ok c.insert.result true _ ok x.made (omega (arith, c.requires.place, ap length h)) c.requires.short ∙ ap (λ vs. takes vs v) h in
+    let t : true ≡ takes us v = told_ok c.insert.result true _ ok x.made (omega (arith, c.requires.place, ap length h)) c.args.value.now.short ∙ ap (λ vs. takes vs v) h in
     record {
       nodes = λ ls rs is. subst (Relisted s _ c.args.e)
           (ap (λ ms. map (values_at s.nodes.now) ls ++ (ms ++ map (values_at s.nodes.now) rs)) (put_taken us c.args.j v t))
@@ -44,26 +44,26 @@ held c =
     left_err c.insert.result (sym c.if-is_ok.false ∙ c.is_ok.ensures.value) c.insert.ensures.err ∙ values_read s.nodes.now c.args.n c.index-nodes-n.result w.0 w.1
 
 left : (c : After-divide-right) → Refilled c.args.self.now.nodes.now (repacked c.args.self.now.nodes.now c.args.n c.index-nodes-n.result c.divide-right.new.pack) c.args.n
-    (cond (takes (take c.args.j (values_at c.args.self.now.nodes.now c.args.n)) c.args.value.now) (take c.args.j (values_at c.args.self.now.nodes.now c.args.n) ++ c.args.value.now ∷ []) (take c.args.j (values_at c.args.self.now.nodes.now c.args.n)))
+    (cond (takes (take c.args.j (values_at c.args.self.now.nodes.now c.args.n)) c.args.value.now.bytes.now) (take c.args.j (values_at c.args.self.now.nodes.now c.args.n) ++ c.args.value.now.bytes.now ∷ []) (take c.args.j (values_at c.args.self.now.nodes.now c.args.n)))
 left c =
     let s = c.args.self.now in
     let j = c.args.j in
-    let v = c.args.value.now in
+    let v = c.args.value.now.bytes.now in
     let w = within (room s) (links_of s) c.args.self.now.linked c.args.e c.args.n c.requires.which (omega (arith, c.requires.there)) in
     repacked_refills s.nodes.now c.args.n c.index-nodes-n.result c.divide-right.new.pack _ w.0 w.1
     (c.divide-right.ensures.left ∙ ap (λ vs. cond (takes (take j vs) v) (take j vs ++ v ∷ []) (take j vs)) (held c))
 
-right : (c : After-divide-right) → values_in c.divide-right.result ≡ cond (takes (take c.args.j (values_at c.args.self.now.nodes.now c.args.n)) c.args.value.now)
-    (drop c.args.j (values_at c.args.self.now.nodes.now c.args.n)) (c.args.value.now ∷ drop c.args.j (values_at c.args.self.now.nodes.now c.args.n))
-right c = let j = c.args.j in let v = c.args.value.now in c.divide-right.ensures.right ∙ ap (λ vs. cond (takes (take j vs) v) (drop j vs) (v ∷ drop j vs)) (held c)
+right : (c : After-divide-right) → values_in c.divide-right.result ≡ cond (takes (take c.args.j (values_at c.args.self.now.nodes.now c.args.n)) c.args.value.now.bytes.now)
+    (drop c.args.j (values_at c.args.self.now.nodes.now c.args.n)) (c.args.value.now.bytes.now ∷ drop c.args.j (values_at c.args.self.now.nodes.now c.args.n))
+right c = let j = c.args.j in let v = c.args.value.now.bytes.now in c.divide-right.ensures.right ∙ ap (λ vs. cond (takes (take j vs) v) (drop j vs) (v ∷ drop j vs)) (held c)
 
-full : (c : After-divide-right) → false ≡ takes (values_at c.args.self.now.nodes.now c.args.n) c.args.value.now
+full : (c : After-divide-right) → false ≡ takes (values_at c.args.self.now.nodes.now c.args.n) c.args.value.now.bytes.now
 full c =
     let s = c.args.self.now in
-    let v = c.args.value.now in
+    let v = c.args.value.now.bytes.now in
     let w = within (room s) (links_of s) c.args.self.now.linked c.args.e c.args.n c.requires.which (omega (arith, c.requires.there)) in
     let h = values_read s.nodes.now c.args.n c.index-nodes-n.result w.0 w.1 in
-    told_ok c.insert.result false _ (sym c.if-is_ok.false ∙ c.is_ok.ensures.value) c.insert.ensures.made (omega (arith, c.requires.place, ap length h)) c.requires.short ∙ ap (λ vs. takes vs v) h
+    told_ok c.insert.result false _ (sym c.if-is_ok.false ∙ c.is_ok.ensures.value) c.insert.ensures.made (omega (arith, c.requires.place, ap length h)) c.args.value.now.short ∙ ap (λ vs. takes vs v) h
 
 pub open-requires : goal.open-requires
 open-requires c =
@@ -84,10 +84,10 @@ returns c =
     record {
       nodes = λ ls rs is. refill_then s c.args.e c.args.n _ _ c.args.self.now.linked c.requires.which c.requires.there (left a) len _ refl refl refl refl refl _ _
           (subst (Relisted _ c.open.new.self c.args.e)
-          (put_nodes s c.args.e c.args.n _ c.args.self.now.linked c.requires.which c.requires.there c.args.j c.args.value.now c.divide-right.result (left a) (right a) (full a) len ls rs is)
+          (put_nodes s c.args.e c.args.n _ c.args.self.now.linked c.requires.which c.requires.there c.args.j c.args.value.now.bytes.now c.divide-right.result (left a) (right a) (full a) len ls rs is)
           (c.open.ensures.nodes (ls ++ c.args.n ∷ []) rs
-          (put_numbers s c.args.e c.args.n _ c.args.self.now.linked c.requires.which c.requires.there c.args.j c.args.value.now c.divide-right.result (left a) (right a) (full a) len ls rs is)
-          (put_last s c.args.e c.args.n _ c.args.self.now.linked c.requires.which c.requires.there c.args.j c.args.value.now c.divide-right.result (left a) (right a) (full a) len ls rs is)));
+          (put_numbers s c.args.e c.args.n _ c.args.self.now.linked c.requires.which c.requires.there c.args.j c.args.value.now.bytes.now c.divide-right.result (left a) (right a) (full a) len ls rs is)
+          (put_last s c.args.e c.args.n _ c.args.self.now.linked c.requires.which c.requires.there c.args.j c.args.value.now.bytes.now c.divide-right.result (left a) (right a) (full a) len ls rs is)));
     }
 
 pub invariant_of-self : goal.invariant_of-self

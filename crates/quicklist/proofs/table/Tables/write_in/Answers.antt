@@ -14,7 +14,7 @@ pub returns : goal.returns
 returns c =
     let s = c.args.self.now in
     let i = c.args.j in
-    let v = c.args.value.now in
+    let v = c.args.value.now.bytes.now in
     let d = c.index-nodes-n.result in
     let x = c.replace.ensures in
     let w = within (room s) (links_of s) c.args.self.now.linked c.args.e c.args.n c.requires.which (omega (arith, c.requires.there)) in
@@ -23,7 +23,7 @@ returns c =
     (left_either c.replace.result (values_in c.replace.new.self) _ _ x.ok x.err ∙ (λ k. cond (sym c.is_ok.ensures.value k) (set (h k) i v) (h k))) in
     let len = repacked_long s.nodes.now c.args.n d c.replace.new.self in
     record {
-      told = told_ok c.replace.result _ _ c.is_ok.ensures.value x.made (omega (arith, c.requires.place, ap length h)) c.requires.short ∙ ap (λ us. swaps us i v) h;
+      told = told_ok c.replace.result _ _ c.is_ok.ensures.value x.made (omega (arith, c.requires.place, ap length h)) c.args.value.now.short ∙ ap (λ us. swaps us i v) h;
       nodes = refill_relisted s c.args.e c.args.n _ _ c.args.self.now.linked c.requires.which c.requires.there re len _ refl refl refl refl refl;
     }
 
