@@ -18,7 +18,7 @@ def sources(commit):
     else:
         names = subprocess.run(["git", "ls-files", "-co", "--exclude-standard", "crates"], capture_output=True, text=True, check=True).stdout.split()
     for name in sorted(set(names)):
-        if re.fullmatch(r"crates/\w+/src/\w+\.rt", name):
+        if re.fullmatch(r"crates/\w+/src/(\w+/)*\w+\.rt", name):
             if commit:
                 text = subprocess.run(["git", "show", f"{commit}:{name}"], capture_output=True, text=True, check=True).stdout
             else:

@@ -4,7 +4,17 @@
 
 use flat::{Record, prepare};
 use std::io;
-use store::{LONGEST_VALUE, ListEnds, Side, WholeLists, keys, values};
+use store::{LONGEST_VALUE, ListEnds, Refusal, Side, WholeLists, keys, values};
+
+// Kept: the reasons in the demo's own words beside `Display`, since the demo calls a value a name.
+fn reason(refusal: Refusal) -> &'static str {
+    match refusal {
+        Refusal::LongKey => "the key is too long",
+        Refusal::LongValue => "the name is too long",
+        Refusal::Full => "the store is full",
+        Refusal::OutOfRange => "there is no such place",
+    }
+}
 
 fn text(bytes: &[u8]) -> &str {
     std::str::from_utf8(bytes).unwrap_or("(no text)")
@@ -20,8 +30,9 @@ fn push<S: WholeLists>(rt: &HostRuntime, store: &mut S, list: &str, name: &str) 
         ),
         Err(refusal) => {
             let number = u8::from(refusal);
+            let why = reason(refusal);
             println!(rt;
-                "A compiler pushes {name} on {list}: refused with {number}, {refusal}; {list} still has {len} and the store holds {held}."
+                "A compiler pushes {name} on {list}: refused with {number}, {why}; {list} still has {len} and the store holds {held}."
             )
         }
     }
@@ -49,9 +60,12 @@ fn put_first<S: WholeLists>(
         Ok(()) => println!(rt;
             "A compiler has built {name} anew and puts it first on {list}: done."
         ),
-        Err(refusal) => println!(rt;
-            "A compiler has built {name} anew and cannot put it first on {list}: {refusal}."
-        ),
+        Err(refusal) => {
+            let why = reason(refusal);
+            println!(rt;
+                "A compiler has built {name} anew and cannot put it first on {list}: {why}."
+            )
+        }
     }
 }
 

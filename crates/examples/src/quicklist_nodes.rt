@@ -23,6 +23,7 @@ const FULL: &[&[u8]] = &[A, A, A, A, A, A, A, SHORT];
 
 const CHANGED: &[&[u8]] = &[A, A, B, A, A, A, A, SHORT];
 
+// Kept: changes as values, since the tests are tables of them; closures over every store could not stand in one slice.
 // A change of the list of the key `k`.
 #[derive(Clone, Copy)]
 enum Step {
@@ -49,13 +50,10 @@ fn take_steps<S: WholeLists>(rt: &impl Abort, store: &mut S, steps: &[Step]) -> 
 
 // How many nodes of the table hold values.
 fn used(nodes: &[Node]) -> usize {
-    let mut n: usize = 0;
-    for node in nodes {
-        if node.as_bytes().len() > 7 {
-            n = n.saturating_add(1);
-        }
-    }
-    n
+    nodes
+        .iter()
+        .filter(|node| node.as_bytes().len() > 7)
+        .count()
 }
 
 fn node_is(rt: &impl Abort, nodes: &[Node], number: u16, values: &[&[u8]]) -> Result<(), Fail> {

@@ -1,5 +1,6 @@
 -- What a loop over the records knows of the rows before and after it.
-use Rattle.std.proofs.Common.{◌≡◌, ℕ, zero, suc, ◌+◌, ◌-◌, ◌<◌, ◌≤◌, Bool, true, false, cond, List, ◌∷◌, length, get_or, drop, IsTrue, ◌↔◌, sym, ap, ◌∙◌, arith}
+use Rattle.std.proofs.Common.{◌≡◌, ℕ, zero, suc, ◌+◌, ◌-◌, ◌<◌, ◌≤◌, Bool, true, false, cond, List, [], ◌∷◌, length, get_or, drop, IsTrue, ◌↔◌, sym, refl, ap, ◌∙◌, arith}
+use Rattle.std.specs.List.{filter}
 use Rattle.std.specs.Ordering.{is_eq}
 use Rattle.std.proofs.lemmas.List.{drop_more, drop_all}
 use Rattle.std.proofs.lemmas.Bool.Decides.{same_from_decides}
@@ -22,19 +23,9 @@ module _ (k : Key) (rs : List Record) (i : ℕ) (b : Bool) (l : i < length rs) (
   unfolding r
   tested = same_from_decides (is_eq (key_order k (key_of r))) b (same_decides k (key_of r)) ((λ t. sym (h.0 t)), λ e. h.1 (sym e))
 
-  values_next : values_of k (rows (drop i rs)) ≡ cond b (value_of r ∷ values_of k (rows (drop (i + 1) rs))) (values_of k (rows (drop (i + 1) rs)))
-  unfolding values_of
-  values_next = ap (λ t. values_of k (rows t)) next ∙ ap (λ t. cond t (value_of r ∷ values_of k (rows (drop (i + 1) rs))) (values_of k (rows (drop (i + 1) rs)))) tested
-
   spot_next : (j : ℕ) → spot k j (rows (drop i rs)) ≡ cond b (onward j (λ m. spot k m (rows (drop (i + 1) rs)))) (suc (spot k j (rows (drop (i + 1) rs))))
   unfolding spot
   spot_next j = ap (λ t. spot k j (rows t)) next ∙ ap (λ t. cond t (onward j (λ m. spot k m (rows (drop (i + 1) rs)))) (suc (spot k j (rows (drop (i + 1) rs))))) tested
-
-  pub count_yes : b ≡ true → length (values_of k (rows (drop i rs))) ≡ 1 + length (values_of k (rows (drop (i + 1) rs)))
-  count_yes t = ap length values_next ∙ ap (λ x. length (cond x (value_of r ∷ values_of k (rows (drop (i + 1) rs))) (values_of k (rows (drop (i + 1) rs))))) t ∙ omega arith
-
-  pub count_no : b ≡ false → length (values_of k (rows (drop i rs))) ≡ length (values_of k (rows (drop (i + 1) rs)))
-  count_no t = ap length values_next ∙ ap (λ x. length (cond x (value_of r ∷ values_of k (rows (drop (i + 1) rs))) (values_of k (rows (drop (i + 1) rs))))) t
 
   pub spot_here : b ≡ true → spot k 0 (rows (drop i rs)) ≡ 0
   spot_here t = spot_next 0 ∙ ap (λ x. cond x zero (suc (spot k 0 (rows (drop (i + 1) rs))))) t
@@ -48,9 +39,22 @@ module _ (k : Key) (rs : List Record) (i : ℕ) (b : Bool) (l : i < length rs) (
   pub spot_pass : (j : ℕ) → b ≡ false → spot k j (rows (drop i rs)) ≡ 1 + spot k j (rows (drop (i + 1) rs))
   spot_pass j t = spot_next j ∙ ap (λ x. cond x (onward j (λ m. spot k m (rows (drop (i + 1) rs)))) (suc (spot k j (rows (drop (i + 1) rs))))) t ∙ omega arith
 
-pub count_end : (k : Key) (rs : List Record) (i : ℕ) → length rs ≤ i → length (values_of k (rows (drop i rs))) ≡ 0
+-- whether a record is one of a key
+abbrev pub is_of : Key → Record → Bool
+is_of k r = is_eq (key_order k (key_of r))
+
+pub told_of : (k : Key) (r : Record) (b : Bool) → IsTrue b ↔ (key_of r ≡ k) → b ≡ is_of k r
+told_of k r b h = sym (same_from_decides (is_of k r) b (same_decides k (key_of r)) ((λ t. sym (h.0 t)), λ e. h.1 (sym e)))
+
+-- the records of a key are as many as the values
+pub of_key : (k : Key) (rs : List Record) → length (filter (is_of k) rs) ≡ length (values_of k (rows rs))
 unfolding values_of
-count_end k rs i l = ap (λ t. length (values_of k (rows t))) (drop_all i rs l)
+of_key k [] = refl
+of_key k (it ∷ rs) = go (is_of k it) (of_key k rs)
+  where
+    go : (b : Bool) → length (filter (is_of k) rs) ≡ length (values_of k (rows rs)) → length (cond b (it ∷ filter (is_of k) rs) (filter (is_of k) rs)) ≡ length (cond b (value_of it ∷ values_of k (rows rs)) (values_of k (rows rs)))
+    go true h = omega arith
+    go false h = h
 
 pub spot_end : (k : Key) (j : ℕ) (rs : List Record) (i : ℕ) → length rs ≤ i → spot k j (rows (drop i rs)) ≡ 0
 unfolding spot

@@ -1,7 +1,7 @@
 -- What moving records by a place leaves.
-use Rattle.std.proofs.Common.{◌≡◌, ℕ, suc, ◌+◌, ◌-◌, ◌<◌, ◌≤◌, ◌⊎◌, List, ◌∷◌, ◌++◌, map, length, get_or, take, drop, set, sym, ap, ◌∙◌, inl, inr, ⊎_elim, arith}
+use Rattle.std.proofs.Common.{◌≡◌, ℕ, suc, ◌+◌, ◌-◌, ◌<◌, ◌≤◌, List, ◌∷◌, ◌++◌, map, length, get_or, take, drop, set, sym, ap, ◌∙◌, ⊎_elim, arith}
 use Rattle.std.specs.List.{remove, insert, SameBelow, CopiedTo}
-use Rattle.std.proofs.lemmas.List.{length-set, length-take, length-take-le, take-append-drop, set-append_left, take_at, take_all, drop_all, append-nil, get_or-take, get_or-set_other, get_or-set_same, same_lists, map-append, take-map, drop-map}
+use Rattle.std.proofs.lemmas.List.{length-set, length-take-le, get_or-take, get_or-set_other, get_or-set_same, same_lists, map-append, take-map, drop-map}
 use Rattle.std.proofs.lemmas.List.Edits.{length-insert, get_or-insert_at, get_or-insert_below, get_or-insert_above, length-remove, get_or-remove_above, get_or-remove_below}
 use Rattle.std.proofs.lemmas.Bool.{cases_order}
 
@@ -45,17 +45,6 @@ module _ {X : Type 0} (xs : List X) where
           let t = length-take-le n xs l in
           let q : (at + 1) + (k - at) ≡ k + 1 = omega arith in
           back k d low (omega arith) ∙ ap (λ j. get_or xs j d) q ∙ sym (get_or-remove_above (take n xs) at d k low (omega arith) ∙ get_or-take n xs (k + 1) d (omega arith))
-
-  pub written : (n i : ℕ) (it : X) → i < length (take n xs) → take n (set xs i it) ≡ set (take n xs) i it
-  written n i it l =
-      ap (λ t. take n (set t i it)) (sym (take-append-drop n xs)) ∙ ap (take n) (set-append_left (take n xs) (drop n xs) i it l) ∙ cut_off (reach (length xs) n)
-    where
-      reach : (a b : ℕ) → (a ≤ b) ⊎ (b ≤ a)
-      reach a b = ⊎_elim (λ e. inl (omega arith)) (⊎_elim (λ e. inl (omega arith)) (λ e. inr (omega arith))) (cases_order a b)
-
-      cut_off : (length xs ≤ n) ⊎ (n ≤ length xs) → take n (set (take n xs) i it ++ drop n xs) ≡ set (take n xs) i it
-      cut_off (inr h) = take_at (set (take n xs) i it) (drop n xs) n (length-set (take n xs) i it ∙ length-take-le n xs h)
-      cut_off (inl h) = ap (λ t. take n (set (take n xs) i it ++ t)) (drop_all n xs h) ∙ ap (take n) (append-nil (set (take n xs) i it)) ∙ take_all n (set (take n xs) i it) (omega (arith, length-set (take n xs) i it, length-take n xs))
 
 module _ {X Y : Type 0} (f : X → Y) (xs : List X) (i : ℕ) where
   pub map_inserted : (x : X) → map f (insert xs i x) ≡ insert (map f xs) i (f x)

@@ -63,6 +63,7 @@ impl<'a> Flat<'a> {
         self.in_use().get(place)
     }
 
+    // Kept: that the room stays is said by each change, here and below: it is a fact of two states, and no value keeps it.
     // Puts a record in at a place, those from there on one place up.
     fn add_at(&mut self, slot: usize, it: Record)
         requires room { self.old.used < room_of self.old }
@@ -181,6 +182,7 @@ impl<'a> ListEnds for Flat<'a> {
         ensures pushed { Pushed (room_of self.old) (lists_in self.old) (lists_in self.new) side key.now value.now result }
         ensures rows { RowsPushed (rows_in self.old) (rows_in self.new) side key.now value.now result }
     {
+        // Kept: room is asked for here and not by the store's question, since the checker takes a generic call inside this block for a recursion of the block.
         let (name, value) = ask_rows(key, value)?;
         if self.held() == self.capacity() {
             return Err(Refusal::Full);
@@ -194,7 +196,7 @@ impl<'a> ListEnds for Flat<'a> {
         ensures popped { Popped (lists_in self.old) (lists_in self.new) side key.now out.old out.new result }
         ensures rows { RowsPopped (rows_in self.old) (rows_in self.new) side key.now result }
     {
-        let end = side.index_in(self.len(key));
+        let end = side.index_in(self.len(key))?;
         let size = self.value_at(key, end, out)?;
         self.cut_element(key, end);
         Some(size)

@@ -2,7 +2,7 @@
 use Rattle.std.proofs.Common.{◌≡◌, ℕ, zero, suc, ◌+◌, ◌<◌, ◌≤◌, eqb, ◌≢◌, List, [], ◌∷◌, ◌++◌, map, reverse, length, get_or, sym, refl, ap, ◌∙◌, arith, eq-eqb, ne_eqb}
 use mathlib.Core.List.{reverse-cons}
 use Rattle.std.proofs.lemmas.Bool.{cond-true, cond-false}
-use Rattle.links.specs.Links.{chain, Leads, Goes, one, tally, last_or, head_or}
+use Rattle.links.specs.Links.{chain, Goes, one, tally, last_or, head_or}
 
 -- ---- one and tally
 
@@ -33,14 +33,6 @@ abbrev pub Once : List ℕ → Type 0
 Once xs = (m : ℕ) → tally m xs ≤ 1
 
 -- ---- a function that leads from a through a list to 0
-
-pub goes_from : (f : ℕ → ℕ) (a : ℕ) (xs : List ℕ) → Leads f a xs → Goes f a xs
-goes_from f a [] h = cc
-goes_from f a (x ∷ xs) h = ((cc), goes_from f x xs (cc))
-
-pub leads_from : (f : ℕ → ℕ) (a : ℕ) (xs : List ℕ) → Goes f a xs → Leads f a xs
-leads_from f a [] h = cc
-leads_from f a (x ∷ xs) h = let r = leads_from f x xs h.1 in cc h.0
 
 pub chain_goes : (f : ℕ → ℕ) (a : ℕ) (xs : List ℕ) (k : ℕ) → Goes f a xs → tally 0 xs ≡ 0 → length xs ≤ k → chain f k (f a) ≡ xs
 chain_goes f a [] zero h z l = refl

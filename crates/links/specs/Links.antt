@@ -1,5 +1,5 @@
 -- Lists of numbers that are led through by links: each number from 1 to a size stands in one of the lists or is free. Zero ends a chain and is no number.
-use Rattle.std.specs.Prelude.{◌≡◌, ℕ, zero, suc, ◌+◌, ◌<◌, cond, ◌≢◌, List, [], ◌∷◌, ◌++◌, map, reverse, length, ◌==◌, nat_le}
+use Rattle.std.specs.Prelude.{◌≡◌, ℕ, zero, suc, ◌+◌, ◌<◌, cond, ◌≢◌, List, [], ◌∷◌, ◌++◌, reverse, length, ◌==◌, nat_le}
 
 -- ---- chains
 
@@ -14,10 +14,7 @@ abbrev pub from : ℕ → (ℕ → ℕ) → ℕ → ℕ
 from h f zero = h
 from h f (suc n) = f (suc n)
 
--- f leads from a through xs, in their order, to 0: as an equation of lists, and step by step
-abbrev pub Leads : (ℕ → ℕ) → ℕ → List ℕ → Type 0
-Leads f a xs = map f (a ∷ xs) ≡ xs ++ 0 ∷ []
-
+-- f leads from a through xs, in their order, to 0
 abbrev pub Goes : (ℕ → ℕ) → ℕ → List ℕ → Type 0
 Goes f a [] = f a ≡ 0
 Goes f a (x ∷ xs) = (f a ≡ x) × Goes f x xs

@@ -28,7 +28,3 @@ module _ {V : Type 0} (order : V → V → Ordering) (n : ℕ) (at : ℕ → V) 
 pub within_some : (n : ℕ) (r : Option ℕ) → MatchOption r (n ≡ 0) (λ i. i < n) → IfSome r (λ i. i < n)
 within_some n None h = tt
 within_some n (Some i) h = h
-
-pub within_both : (n : ℕ) (r : Option ℕ) (Q : Type 0) → IfSome r (λ i. (i < n) × Q) → IfSome r (λ i. i < n)
-within_both n None Q h = tt
-within_both n (Some i) Q h = h.0

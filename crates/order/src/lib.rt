@@ -10,11 +10,13 @@ ghost use Rattle.order.specs.Keys.{Key, key_order, bytes_in, Holds};
 ghost use Rattle.order.specs.KeyLaws.{key_order_lawful};
 
 use std::cmp::Ordering;
+use std::error::Error;
+use std::fmt;
 
 // The most bytes that a key has.
 pub const LONGEST_KEY: usize = 32;
 
-// Kept: not std's `Ord`, which asks that values which are equal to the order are equal values; rows that read alike may differ in bytes that are not read.
+// Kept: not std's `Ord`, whose laws speak of the values alone: here a value reads as something, the order is one of readings, and of two different readings exactly one comes first.
 // A type whose values stand in a total order by what they read as: two that read alike are one to the order.
 pub trait TotalOrder {
     // What values read as, how they are read, and how readings are ordered.
@@ -119,6 +121,14 @@ pub struct ShortBytes<const N: usize> {
 // More bytes than there is room for.
 #[derive(Clone, Copy, Debug, PartialEq, Eq)]
 pub struct TooLong;
+
+impl fmt::Display for TooLong {
+    fn fmt<W: fmt::Write>(&self, f: &mut fmt::Formatter<W>) -> fmt::Result {
+        f.write_str("too many bytes")
+    }
+}
+
+impl Error for TooLong {}
 
 // A key as a plain row of a table.
 pub type KeyRow = ShortBytes<LONGEST_KEY>;

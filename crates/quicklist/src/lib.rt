@@ -31,6 +31,7 @@ use store::{
 pub use table::Node;
 use table::Tables;
 
+// Kept: two tables in one struct, since the host lends them so.
 // The two tables of a store, as they are lent.
 #[derive(Drop)]
 pub struct Lent<'a> {
@@ -100,6 +101,7 @@ impl<'a> ListEnds for Quicklist<'a> {
         ensures pushed { Pushed (room_of self.old) (lists_in self.old) (lists_in self.new) side key.now value.now result }
         ensures nodes { NodesPushed (nodes_for self.old) (nodes_for self.new) side key.now value.now result }
     {
+        // Kept: room is asked for here and not by the store's question, since the checker takes a generic call inside this block for a recursion of the block.
         let (name, value) = ask_rows(key, value)?;
         if self.held() == self.capacity() {
             return Err(Refusal::Full);
@@ -113,7 +115,7 @@ impl<'a> ListEnds for Quicklist<'a> {
         ensures popped { Popped (lists_in self.old) (lists_in self.new) side key.now out.old out.new result }
         ensures nodes { NodesPopped (nodes_for self.old) (nodes_for self.new) side key.now result }
     {
-        let end = side.index_in(self.len(key));
+        let end = side.index_in(self.len(key))?;
         let size = self.value_at(key, end, out)?;
         self.cut_end(side, key, end);
         Some(size)

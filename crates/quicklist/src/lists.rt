@@ -1,5 +1,5 @@
 // One list by its nodes: values are added, written over and taken out.
-ghost use Rattle.std.specs.Prelude.{◌≡◌, ℕ, ◌<◌, ◌≤◌, List, [], ◌∷◌, ◌++◌, map, length, slice_set, if◌then◌else◌, Decides};
+ghost use Rattle.std.specs.Prelude.{◌≡◌, ℕ, ◌<◌, ◌≤◌, List, [], ◌∷◌, ◌++◌, map, length, slice_set, if◌then◌else◌, IsTrue, ◌↔◌};
 ghost use Rattle.std.specs.List.{remove};
 ghost use Rattle.store.specs.Limits.{longest_value};
 ghost use Rattle.links.specs.Links.{tally, last_or, Sound};
@@ -12,6 +12,8 @@ use crate::table::Tables;
 use listpack::Listpack;
 use store::Side;
 
+// Kept: the number of a list goes with that of a node, or with an index, through these methods, and facts on the tables tie them (`e < room`, `0 < tally n ..`): a struct of
+// both would hold a number of a table that it does not hold, and be taken apart at each call.
 impl<'a> Tables<'a> {
     // Adds a value before the one at j of a node. A node that does not take it is cut there.
     fn put_in(&mut self, e: usize, n: u16, j: usize, value: &ShortValue<'_>)
@@ -45,6 +47,7 @@ impl<'a> Tables<'a> {
         self.open(e, p, pack);
     }
 
+    // Kept: 0 for none, as the record has it.
     // The number of the node at a side of a list, 0 where it has none.
     fn end_of(&self, e: usize, side: Side) -> u16
         requires { e < length self.now.lists.now }
@@ -70,7 +73,7 @@ impl<'a> Tables<'a> {
     fn holds_nothing(&self, n: u16) -> bool
         requires some { 0 < n }
         requires within { n ≤ room self.now }
-        ensures { Decides result (length (values_at self.now.nodes.now n) ≡ 0) }
+        ensures { IsTrue result ↔ (length (values_at self.now.nodes.now n) ≡ 0) }
     {
         self.count_in(n) == 0
     }
@@ -108,6 +111,7 @@ impl<'a> Tables<'a> {
         self.open_with(e, p, value);
     }
 
+    // Kept: a bool here and in `replace_in`, since only lack of room is left as a reason, and the caller then takes another way.
     // Writes a value over the one at j of a node, if it fits.
     fn write_in(&mut self, e: usize, n: u16, j: usize, value: &ShortValue<'_>) -> bool
         requires which { e < room self.old }
@@ -156,6 +160,7 @@ impl<'a> Tables<'a> {
         self.walk_to(e, index)
     }
 
+    // Kept: numbers of nodes are followed by hand; an iterator over the nodes of a list would carry the same two fields, and its steps the same facts.
     // The same from the first node on. Whole nodes are passed over by their counts.
     fn walk_to(&self, e: usize, index: usize) -> Spot
         requires which { e < room self.now }
@@ -164,7 +169,7 @@ impl<'a> Tables<'a> {
     {
         let mut node = self.lists[e].first;
         let mut place = index;
-        for _k in 0..self.nodes.len() {
+        for _ in 0..self.nodes.len() {
             let here = self.count_in(node);
             if place < here {
                 return Spot { node, place };
@@ -224,6 +229,7 @@ pub(crate) struct Spot {
     pub(crate) place: usize,
 }
 
+// Kept: 0 for the front, as the tables have it.
 // The node after which one goes that is put beside the end node n of a side, outside of it; 0 for the front.
 fn node_before(side: Side, n: u16) -> u16
     ensures { result ≡ node_before side n }

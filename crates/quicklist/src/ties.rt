@@ -24,6 +24,7 @@ impl Node {
     }
 }
 
+// Kept: this and `trail` mirror each other in two fields of a node and of `Ends`; one function would be told by a side which of them it means, at each of four places.
 // Lets p lead to q, and tells the list's first node then.
 fn lead(nodes: &mut [Node], first: u16, p: u16, q: u16) -> u16
     requires { p ≤ length nodes.old }

@@ -1,7 +1,7 @@
 -- The keys of a store by rank, and how the search for the least key above another finds them in rows.
-use Rattle.std.proofs.Common.{◌≡◌, ℕ, zero, suc, ◌+◌, ◌<◌, ◌≤◌, Bool, true, false, cond, ◌⊎◌, List, [], ◌∷◌, length, get_or, Some, None, Option, Less, Greater, sym, refl, ap, ◌∙◌, inl, inr, ⊎_elim, true≢false, arith}
+use Rattle.std.proofs.Common.{◌≡◌, ℕ, zero, suc, ◌+◌, ◌<◌, Bool, true, false, cond, List, [], ◌∷◌, length, get_or, Some, None, Option, Less, Greater, sym, refl, ap, ◌∙◌, ⊎_elim, true≢false, arith}
 use Rattle.std.specs.Ordering.{is_eq, is_gt}
-use Rattle.std.proofs.lemmas.Bool.{cases_eq, cases_order}
+use Rattle.std.proofs.lemmas.Bool.{cases_eq, cases_order, cases_lt}
 use Rattle.order.specs.Keys.{Key, key_order}
 use Rattle.order.specs.Orders.{FirstLeast}
 use Rattle.store.specs.Lists.{Lists, at, Above, Canonical, keys_of}
@@ -99,12 +99,10 @@ module _ (ps : List Row) where
 
   -- the least name after a key is the next key
   pub rank_next : (i a : ℕ) (r : Option ℕ) → AtRank ps i (Some a) → FirstLeast key_order (λ v. key_order (get_or (names ps) a []) v ≡ Less) (length (names ps)) (λ j. get_or (names ps) j []) r → AtRank ps (i + 1) r
-  rank_next i a None w h = ⊎_elim (λ e. e)
+  rank_next i a None w h = ⊎_elim
       (λ e. let j = of_rank ps (i + 1) e in absurd (h j.0 j.1 ((λ x. key_order (w.2 x) (j.2 x)) ∙ up i (i + 1) (omega arith) e)))
-      (reach (length (keys_of (lists_of ps))) (i + 1))
-    where
-      reach : (n k : ℕ) → (n ≤ k) ⊎ (k < n)
-      reach n k = ⊎_elim (λ e. inl (omega arith)) (⊎_elim (λ e. inl (omega arith)) (λ e. inr e)) (cases_order n k)
+      (λ e. e)
+      (cases_lt (i + 1) (length (keys_of (lists_of ps))))
   rank_next i a (Some b) w h =
       let m = to_rank ps b h.0 in
       let l : i < m.0 = over_next i m.0 m.1 w.1 ((λ x. key_order (sym w.2 x) (m.2 x)) ∙ h.1) in (

@@ -1,7 +1,7 @@
 // What a list store means, and the two traits by which it is used: its ends, and over them whole lists.
 #![tactic(auto)]
 
-ghost use Rattle.std.specs.Prelude.{◌≡◌, ℕ, length};
+ghost use Rattle.std.specs.Prelude.{◌≡◌, ℕ, ◌<◌, ◌↔◌, length, IsNone, IfSome};
 ghost use Rattle.order.specs.Keys.{longest_key};
 ghost use Rattle.store.specs.Limits.{longest_value};
 ghost use Rattle.store.specs.Lists.{Lists, StoreLaws, ListLaws, at, keys_of};
@@ -35,14 +35,17 @@ pub enum Side {
 }
 
 impl Side {
-    // The index of the value on this side of a list of n values; 0 of none.
-    pub fn index_in(self, n: usize) -> usize
-        ensures { result ≡ place self n }
+    // The index of the value on this side of a list of n values, if it has one.
+    pub fn index_in(self, n: usize) -> Option<usize>
+        ensures none { IsNone result ↔ (n ≡ 0) }
+        ensures value { IfSome result (λ i. i ≡ place self n) }
+        ensures within { IfSome result (λ i. i < n) }
     {
-        match self {
+        let last = n.checked_sub(1)?;
+        Some(match self {
             Side::Left => 0,
-            Side::Right => n.saturating_sub(1),
-        }
+            Side::Right => last,
+        })
     }
 }
 

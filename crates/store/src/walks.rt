@@ -9,6 +9,7 @@ ghost use Rattle.store.specs.Walks.{Onward};
 
 use crate::{KeyRow, LONGEST_KEY, LONGEST_VALUE, ListEnds, ValueRow};
 
+// Kept: two walks beside each other: each reads the store by another method into another row, and the rest is the two lines around that.
 // The values of a key's list from an index on.
 #[derive(Clone, Copy)]
 pub struct ValuesOf<'a, S> {

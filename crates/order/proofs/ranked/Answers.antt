@@ -1,6 +1,7 @@
 use Rattle.std.proofs.Common.{◌≡◌, ℕ, ◌<◌, length, IfSome, Option, get_or, subst, arith}
+use Rattle.std.proofs.lemmas.Option.{IfSome_then}
 use Rattle.order.specs.Orders.{Ranked}
-use Rattle.order.proofs.Ranks.{first_ranked, next_ranked, none_ranked, within_some, within_both}
+use Rattle.order.proofs.Ranks.{first_ranked, next_ranked, none_ranked, within_some}
 use Rattle.order.proofs.ranked.Goals as goal
 
 pub loop-init : goal.loop-init
@@ -13,7 +14,7 @@ pub loop-preserved : goal.loop-preserved
 loop-preserved g c =
     let n = length c.args.items.now in
     let b : c.in_ok-found.field-0 < n = subst (λ (o : Option ℕ). IfSome o (λ i. i < n)) c.in_ok-found.was c.loop.invariant.0 in (
-      within_both n c.least_after-found.result _ c.least_after-found.ensures.within,
+      IfSome_then c.least_after-found.result c.least_after-found.ensures.within (λ i h. h.0),
       (λ d. next_ranked g.T.TotalOrder.order n _ c.loop.counter c.in_ok-found.field-0 c.loop.found c.least_after-found.result c.in_ok-found.was (c.loop.invariant.1 d) (c.least_after-found.ensures.first d b)),
     )
 

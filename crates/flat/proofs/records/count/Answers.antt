@@ -1,16 +1,13 @@
-use Rattle.std.proofs.Common.{arith}
-use Rattle.flat.proofs.Scans.{count_yes, count_no, count_end}
+use Rattle.std.proofs.Common.{◌∙◌, rules}
+use Rattle.std.proofs.lemmas.Iterator.{YieldsList-from_slice}
+use Rattle.std.proofs.lemmas.Iterator.Consumers.{YieldsList-from_filter, count_from_yields_List}
+use borrow.Author.Tests.{tests}
+use Rattle.flat.proofs.Scans.{is_of, of_key, told_of}
 use Rattle.flat.proofs.records.count.Goals as goal
-use Rattle.flat.proofs.records.count.Goals.{then-has_key, else-has_key}
-
-pub loop-it-preserved : goal.loop-it-preserved
-loop-it-preserved c =
-    let k = c.args.key.now in
-    let rs = c.args.records.now in
-    elim c.if-has_key.branch [
-      | then-has_key w ↦ let h = count_yes k rs c.loop-it.it-index c.has_key.result c.loop-it-test.true c.has_key.ensures w.if-has_key.true in (omega (arith, w.n-is), omega (arith, w.n-is))
-      | else-has_key w ↦ let h = count_no k rs c.loop-it.it-index c.has_key.result c.loop-it-test.true c.has_key.ensures w.if-has_key.false in (omega (arith, w.n-is), omega (arith, w.n-is))
-    ]
 
 pub returns : goal.returns
-returns c = omega (arith, count_end c.args.key.now c.args.records.now c.loop-it.it-index (omega arith))
+returns c =
+    let k = c.args.key.now in
+    let rs = c.args.records.now in
+    count_from_yields_List _ c.count.result c.count.ensures.ran
+    (YieldsList-from_filter _ (is_of k) (YieldsList-from_slice rs cc) c.filter.ensures.closure (λ x b q h. (search (rules, tests), told_of k x.now b (search (rules, tests))))) ∙ of_key k rs
