@@ -1,7 +1,7 @@
 -- One step of a walk along a list.
-use Rattle.std.specs.Prelude.{◌≡◌, ℕ, ◌+◌, List, Some, None, Option, slice_get}
+use Rattle.std.specs.Prelude.{◌≡◌, List, [], ◌∷◌, Some, None, Option}
 
--- the item at the index i is given and the next index is i + 1; past the last item none is given, and the index stays
-abbrev pub Onward : List (List ℕ) → ℕ → Option (List ℕ) → ℕ → Type 0
-Onward items i None j = (slice_get items i ≡ None) × (j ≡ i)
-Onward items i (Some v) j = (slice_get items i ≡ Some v) × (j ≡ i + 1)
+-- the first of the items to come is given, and the others are to come then; where none is to come none is given
+abbrev pub GivesFirst : {X : Type 0} → List X → Option X → List X → Type 0
+GivesFirst items None after = (items ≡ []) × (after ≡ [])
+GivesFirst items (Some x) after = items ≡ x ∷ after

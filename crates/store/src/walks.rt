@@ -1,28 +1,33 @@
 // The values of a list and the keys of a store, one after another.
-ghost use Rattle.std.specs.Prelude.{◌≡◌, ◌-◌, length};
+ghost use Rattle.std.specs.Prelude.{◌≡◌, List, ℕ, drop, length};
 ghost use Rattle.std.specs.Iterator.{at_most};
 ghost use Rattle.std.specs.Option.{option_map};
 ghost use Rattle.order.specs.Keys.{key_in};
 ghost use Rattle.store.specs.Lists.{at, keys_of};
 ghost use Rattle.store.specs.Answers.{value_in};
-ghost use Rattle.store.specs.Walks.{Onward};
+ghost use Rattle.store.specs.Walks.{GivesFirst};
 
 use crate::{KeyRow, LONGEST_KEY, LONGEST_VALUE, ListEnds, ValueRow};
+use std::marker::Model;
 
 // Kept: two walks beside each other: each reads the store by another method into another row, and the rest is the two lines around that.
-// The values of a key's list from an index on.
-#[derive(Clone, Copy)]
-pub struct ValuesOf<'a, S> {
+// The values of a key's list that are still to come, those from an index on.
+#[derive(Drop)]
+pub struct ValuesOf<'a, S: ListEnds> {
     store: &'a S,
     key: &'a [u8],
     next: usize,
 }
 
+impl<'a, S: ListEnds> Model for ValuesOf<'a, S> {
+    ghost Value = { List (List ℕ) };
+
+    ghost view = { λ walk. drop walk.next (at (S.lists walk.store.now) walk.key.now) };
+}
+
 // The values of a key's list, the first one first.
 pub fn values<'a, S: ListEnds>(store: &'a S, key: &'a [u8]) -> ValuesOf<'a, S>
-    ensures store { result.store.now ≡ store.now }
-    ensures key { result.key.now ≡ key.now }
-    ensures first { result.next ≡ 0 }
+    ensures { result ≡ at (S.lists store.now) key.now }
 {
     ValuesOf {
         store,
@@ -34,9 +39,9 @@ pub fn values<'a, S: ListEnds>(store: &'a S, key: &'a [u8]) -> ValuesOf<'a, S>
 impl<'a, S: ListEnds> Iterator for ValuesOf<'a, S> {
     type Item = ValueRow;
 
-    ghost next_gives = { λ it r after. (after.store.now ≡ it.store.now) × (after.key.now ≡ it.key.now) × Onward (at (S.lists it.store.now) it.key.now) it.next (option_map value_in r) after.next };
+    ghost next_gives = { λ walk r after. GivesFirst walk (option_map value_in r) after };
 
-    ghost remaining = { λ it. at_most (length (at (S.lists it.store.now) it.key.now) - it.next) };
+    ghost remaining = { λ walk. at_most (length walk) };
 
     fn next(&mut self) -> Option<ValueRow> {
         let mut bytes = [0; LONGEST_VALUE];
@@ -49,17 +54,22 @@ impl<'a, S: ListEnds> Iterator for ValuesOf<'a, S> {
     }
 }
 
-// The keys of a store from a rank on.
-#[derive(Clone, Copy)]
-pub struct KeysOf<'a, S> {
+// The keys of a store that are still to come, those from a rank on.
+#[derive(Drop)]
+pub struct KeysOf<'a, S: ListEnds> {
     store: &'a S,
     next: usize,
 }
 
+impl<'a, S: ListEnds> Model for KeysOf<'a, S> {
+    ghost Value = { List (List ℕ) };
+
+    ghost view = { λ walk. drop walk.next (keys_of (S.lists walk.store.now)) };
+}
+
 // The keys of a store in ascending order.
 pub fn keys<'a, S: ListEnds>(store: &'a S) -> KeysOf<'a, S>
-    ensures store { result.store.now ≡ store.now }
-    ensures first { result.next ≡ 0 }
+    ensures { result ≡ keys_of (S.lists store.now) }
 {
     KeysOf { store, next: 0 }
 }
@@ -67,9 +77,9 @@ pub fn keys<'a, S: ListEnds>(store: &'a S) -> KeysOf<'a, S>
 impl<'a, S: ListEnds> Iterator for KeysOf<'a, S> {
     type Item = KeyRow;
 
-    ghost next_gives = { λ it r after. (after.store.now ≡ it.store.now) × Onward (keys_of (S.lists it.store.now)) it.next (option_map key_in r) after.next };
+    ghost next_gives = { λ walk r after. GivesFirst walk (option_map key_in r) after };
 
-    ghost remaining = { λ it. at_most (length (keys_of (S.lists it.store.now)) - it.next) };
+    ghost remaining = { λ walk. at_most (length walk) };
 
     fn next(&mut self) -> Option<KeyRow> {
         let mut bytes = [0; LONGEST_KEY];

@@ -1,10 +1,6 @@
-use Rattle.std.proofs.Common.{refl, arith}
-use Rattle.store.specs.Lists.{keys_of}
-use Rattle.store.proofs.Steps.{few_keys, row_copied}
+use Rattle.std.proofs.Common.{arith}
+use Rattle.store.proofs.Steps.{few_keys}
 use Rattle.store.proofs.walks.KeysOfIterator.next.Goals as goal
 
 pub overflow_add-self : goal.overflow_add-self
-overflow_add-self g c = let s = c.args.self.now.store.now in omega (arith, few_keys (g.S.ListEnds.room s) (g.S.ListEnds.lists s) (g.met.S.ListEnds.laws s), c.in_ok-size.ensures.0)
-
-pub returns-clause-steps : goal.returns-clause-steps
-returns-clause-steps g c = (refl, (row_copied 32 (keys_of (g.S.ListEnds.lists c.args.self.now.store.now)) c.args.self.now.next c.in_ok-size.size _ c.key_at.new.out c.in_ok-size.ensures, refl))
+overflow_add-self g c = let s = c.self.inside.store.now in omega (arith, few_keys (g.S.ListEnds.room s) (g.S.ListEnds.lists s) (g.met.S.ListEnds.laws s), c.in_ok-size.ensures.0)
