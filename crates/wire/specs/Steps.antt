@@ -1,5 +1,5 @@
 -- What each step says of the bytes that it is given.
-use Rattle.std.specs.Prelude.{◌≡◌, ℕ, ◌+◌, ◌-◌, ◌<◌, ◌≤◌, List, [], ◌∷◌, ◌++◌, length, decimal, ◌≢◌}
+use Rattle.std.specs.Prelude.{◌≡◌, ℕ, ◌+◌, ◌<◌, ◌≤◌, List, [], ◌∷◌, ◌++◌, length, decimal, ◌≢◌}
 use Rattle.std.specs.List.{AllByRecursion}
 use Rattle.wire.specs.Texts.{Short, Strays}
 use Rattle.wire.specs.declared.stop.Stop.{Stop}
@@ -16,11 +16,6 @@ Refused L s (Fault p) = Strays L s p
 abbrev pub Stopped : (List ℕ → Type 0) → List ℕ → Stop → Type 0
 Stopped L s Ended = Short L s
 Stopped L s (At k) = (p : ℕ) × (p + k ≡ length s) × Strays L s p
-
--- what a stop in n bytes tells from their front
-abbrev pub SeenFrom : ℕ → Stop → ReadError → Type 0
-SeenFrom n Ended e = e ≡ More
-SeenFrom n (At k) e = e ≡ Fault (n - k)
 
 -- CR LF
 abbrev pub crlf : List ℕ

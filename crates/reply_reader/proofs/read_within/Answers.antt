@@ -10,4 +10,4 @@ returns-in_err-found c =
     let p = err_from_is_err_and c.from_residual.result c.from_residual.ensures.1 in
     let d = c.args.depth in
     let s = c.args.bytes.now in
-    rw (p.1, p.2) (IfErr-at_err (Refused (Says d) s) c.in_err-found.was (seen_from_front (Says d) s c.read_value.result c.map_err.result _ (MatchResult-weaker c.read_value.result c.read_value.ensures (λ f h. tt) (λ e h. h)) c.map_err.ensures.cases (λ stop e k. search rules)))
+    rw (p.1, p.2) (IfErr-at_err (Refused (Says d) s) c.in_err-found.was (seen_from_front (Says d) s c.read_value.result c.map_err.result _ (MatchResult-weaker c.read_value.result c.read_value.ensures (λ f h. tt) (λ e h. h)) c.map_err.ensures.cases (λ stop e k. search rules) (λ stop e k. search rules)))
