@@ -2,8 +2,8 @@
 ghost use Rattle.std.specs.Prelude.{◌≡◌, ◌∷◌, ◌++◌, IfSome, IfNone, IfOk, IfErr, FitsSigned};
 ghost use Rattle.std.specs.Int.{w64};
 ghost use Rattle.std.specs.Fmt.{signed_decimal};
-ghost use Rattle.reply.specs.Replies.{crlf, longest_text, Text};
-ghost use Rattle.wire.specs.Steps.{Stopped};
+ghost use Rattle.reply.specs.Replies.{longest_text, Text};
+ghost use Rattle.wire.specs.Steps.{crlf, Stopped};
 ghost use Rattle.reply_reader.specs.Steps.{NoMinus, Integers, Heads, Head, Run, Texts};
 
 use reply::LONGEST_TEXT;

@@ -25,6 +25,9 @@ crlf = 13 ∷ 10 ∷ []
 abbrev pub Byte : ℕ → Type 0
 Byte b = b < 256
 
+abbrev pub Bytes : List ℕ → Type 0
+Bytes s = AllByRecursion Byte s
+
 -- just one text
 abbrev pub Just : List ℕ → List ℕ → Type 0
 Just v w = w ≡ v
@@ -46,7 +49,7 @@ Ends high n s = (c : ℕ) (r : List ℕ) → s ≡ c ∷ r → (m : ℕ) → m �
 
 -- n bytes
 abbrev pub Sized : ℕ → List ℕ → Type 0
-Sized n b = (length b ≡ n) × AllByRecursion Byte b
+Sized n b = (length b ≡ n) × Bytes b
 
 -- n bytes and CR LF
 abbrev pub Filled : ℕ → List ℕ → Type 0

@@ -1,7 +1,6 @@
 use Rattle.std.proofs.Common.{[], ◌∷◌, refl, arith}
 use Rattle.std.proofs.lemmas.Result.{err_from_is_err_and}
-use Rattle.reply.specs.Replies.{crlf}
-use Rattle.wire.specs.Steps.{Just, Number}
+use Rattle.wire.specs.Steps.{crlf, Just, Number}
 use Rattle.reply_reader.specs.Steps.{Heads}
 use Rattle.wire.proofs.Sets.{front, front_just, back, back_just}
 use Rattle.reply_reader.proofs.LineLemmas.{back_nil, back_head}

@@ -1,7 +1,6 @@
 use Rattle.std.proofs.Common.{◌++◌, sym, ap, ◌∙◌, append_assoc}
 use Rattle.std.proofs.lemmas.Result.{err_from_is_err_and}
-use Rattle.reply.specs.Replies.{crlf}
-use Rattle.wire.specs.Steps.{Just}
+use Rattle.wire.specs.Steps.{crlf, Just}
 use Rattle.reply_reader.specs.Steps.{Texts}
 use Rattle.wire.proofs.Sets.{back}
 use Rattle.reply_reader.proofs.LineLemmas.{run_is, run_parts, back_text}

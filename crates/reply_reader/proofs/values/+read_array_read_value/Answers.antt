@@ -1,6 +1,7 @@
 use Rattle.std.proofs.Common.{◌≡◌, suc, ◌+◌, ◌-◌, ◌++◌, decimal, subst, arith, rules}
 use Rattle.std.proofs.lemmas.Result.{err_from_is_err_and}
-use Rattle.reply.specs.Replies.{crlf, most_elements}
+use Rattle.reply.specs.Replies.{most_elements}
+use Rattle.wire.specs.Steps.{crlf}
 use Rattle.reply_reader.specs.Steps.{After, Came, Heads, Head, Rows}
 use Rattle.wire.proofs.Sets.{front, back}
 use Rattle.reply_reader.proofs.Marks.{marked, none_yet, other_mark, array_mark, came_text, came_error}

@@ -1,7 +1,7 @@
 use Rattle.std.proofs.Common.{◌∷◌, ◌++◌, decimal, sym, refl, ap, ◌∙◌, subst, append_assoc, arith}
 use Rattle.std.proofs.lemmas.Result.{err_from_is_err_and}
-use Rattle.reply.specs.Replies.{bulk, crlf, longest_bulk}
-use Rattle.wire.specs.Steps.{Filled}
+use Rattle.reply.specs.Replies.{bulk, longest_bulk}
+use Rattle.wire.specs.Steps.{crlf, Filled}
 use Rattle.reply_reader.specs.Steps.{After, Heads, Head}
 use Rattle.wire.proofs.Sets.{front, back}
 use Rattle.reply_reader.proofs.Marks.{front_bulk, back_bulk}
