@@ -24,3 +24,12 @@ pub ok_from_front : {X : Type 0} (P : X → Type 0) (r : Result X Stop) (seen : 
 ok_from_front P (Ok f) seen Made h g = subst (λ x. IfOk x P) (sym g) h
 ok_from_front P (Err stop) (Ok f) Made h g = absurd g
 ok_from_front P (Err stop) (Err e) Made h g = tt
+
+-- a stop that is passed on says what it said
+pub passed_on : {T E : Type 0} (R : E → Type 0) (r : Result T E) {e : E} → IsErrAnd r (λ y. y ≡ e) → R e → IfErr r R
+passed_on R (Ok x) h q = absurd h
+passed_on R (Err y) h q = subst R (sym h) q
+
+pub passed_on_by_cases : {T E : Type 0} (P : T → Type 0) (R : E → Type 0) (r : Result T E) {e : E} → IsErrAnd r (λ y. y ≡ e) → R e → MatchResult r P R
+passed_on_by_cases P R (Ok x) h q = absurd h
+passed_on_by_cases P R (Err y) h q = subst R (sym h) q

@@ -1,6 +1,6 @@
 use Rattle.std.proofs.Common.{◌≡◌, suc, ◌+◌, ◌-◌, ◌++◌, decimal, subst, arith, rules}
-use Rattle.std.proofs.lemmas.Result.{err_from_is_err_and}
 use Rattle.reply.specs.Replies.{most_elements}
+use Rattle.wire.proofs.Stops.{passed_on_by_cases}
 use Rattle.wire.specs.Steps.{crlf}
 use Rattle.reply_reader.specs.Steps.{After, Came, Heads, Head, Rows}
 use Rattle.wire.proofs.Sets.{front, back}
@@ -11,8 +11,7 @@ use Rattle.reply_reader.proofs.values.+read_array_read_value.Goals.{read_value-i
 
 pub read_array-returns-in_err-size : goal.read_array-returns-in_err-size
 read_array-returns-in_err-size t c =
-    let p = err_from_is_err_and c.from_residual.result c.from_residual.ensures.1 in
-    rw (p.1, p.2) (front (After 42 (suc c.args.depth)) (Heads 0 most_elements) _ _ (front_array c.args.depth _) c.in_err-size.ensures.stopped)
+    passed_on_by_cases _ _ c.from_residual.result c.from_residual.ensures.1 (front (After 42 (suc c.args.depth)) (Heads 0 most_elements) _ _ (front_array c.args.depth _) c.in_err-size.ensures.stopped)
 
 pub read_value-returns-in_default : goal.read_value-returns-in_default
 read_value-returns-in_default t c = none_yet c.args.depth c.args.bytes.now c.in_default.ensures
@@ -40,11 +39,10 @@ read_array-loop-init t c = subst (Sofar c.args.depth c.in-Some.n _ _) (omega ari
 
 pub read_array-returns-in_err-rest : goal.read_array-returns-in_err-rest
 read_array-returns-in_err-rest t c =
-    let p = err_from_is_err_and c.from_residual-in_err-rest.result c.from_residual-in_err-rest.ensures.1 in
     let n = c.in-Some.n in
     let told = subst (λ o. Head 0 most_elements c.args.bytes.now o c.in_ok-size.start.now) c.in-Some.is c.in_ok-size.ensures.passed in
     let more : n - c.loop.counter ≡ suc (n - (c.loop.counter + 1)) = omega arith in
-    rw (p.1, p.2) (back (After 42 (suc c.args.depth)) (Rows c.args.depth n) (decimal n ++ crlf) _ _ _ told.1 (back_array c.args.depth n _ told.0.1) (stuck c.args.depth n _ _ (n - c.loop.counter) (n - (c.loop.counter + 1)) c.loop.invariant more _ c.in_err-rest.ensures))
+    passed_on_by_cases _ _ c.from_residual-in_err-rest.result c.from_residual-in_err-rest.ensures.1 (back (After 42 (suc c.args.depth)) (Rows c.args.depth n) (decimal n ++ crlf) _ _ _ told.1 (back_array c.args.depth n _ told.0.1) (stuck c.args.depth n _ _ (n - c.loop.counter) (n - (c.loop.counter + 1)) c.loop.invariant more _ c.in_err-rest.ensures))
 
 pub read_array-loop-preserved : goal.read_array-loop-preserved
 read_array-loop-preserved t c =
