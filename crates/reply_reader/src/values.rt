@@ -94,9 +94,7 @@ fn read_array(bytes: &[u8], depth: usize) -> Result<Found<'_>, Stop>
 pub fn read_value(bytes: &[u8], depth: usize) -> Result<Found<'_>, Stop>
     ensures { MatchResult result (λ f. Finds depth bytes.now f) (λ e. Stopped (Says depth) bytes.now e) }
 {
-    let Some((mark, rest)) = first(bytes) else {
-        return Err(Stop::Short);
-    };
+    let (mark, rest) = first(bytes).ok_or(Stop::Short)?;
     match mark as char {
         '+' => read_text(rest, Value::Text),
         '-' => read_text(rest, Value::Error),

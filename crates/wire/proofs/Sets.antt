@@ -1,5 +1,5 @@
 -- How the end of a step is carried to the whole that the step is a part of.
-use Rattle.std.proofs.Common.{◌≡◌, ℕ, zero, suc, ◌+◌, ◌<◌, ◌≤◌, true, false, eqb, ◌⊎◌, List, [], ◌∷◌, ◌++◌, length, take, drop, sym, refl, ap, ◌∙◌, subst, inl, inr, ⊎_elim, append_assoc, append-nil, add_assoc, add-one, arith, length-append, take-append-drop}
+use Rattle.std.proofs.Common.{Ok, ◌≡◌, ℕ, zero, suc, ◌+◌, ◌<◌, ◌≤◌, true, false, eqb, ◌⊎◌, List, [], ◌∷◌, ◌++◌, length, take, drop, sym, refl, ap, ◌∙◌, subst, inl, inr, ⊎_elim, append_assoc, append-nil, add_assoc, add-one, arith, length-append, take-append-drop}
 use Rattle.std.specs.Prelude.{None, Some, Option, MatchOption, IfErr}
 use Rattle.std.specs.Option.{ok_or}
 use Rattle.std.proofs.Math.Seq.{take-append-add}
@@ -14,6 +14,11 @@ use Rattle.wire.specs.declared.stop.Stop.TheVariants.{Short as Ended, At}
 pub missed : {X E : Type 0} (o : Option X) (e : E) (P : Type 0) (Q : X → Type 0) (R : E → Type 0) → MatchOption o P Q → (P → R e) → IfErr (ok_or o e) R
 missed None e P Q R m f = f m
 missed (Some x) e P Q R m f = tt
+
+-- a step that found something
+pub found : {X E : Type 0} (o : Option X) (e : E) (P : Type 0) (Q : X → Type 0) (x : X) → MatchOption o P Q → ok_or o e ≡ Ok x → Q x
+found None e P Q x m is = absurd cc
+found (Some y) e P Q x m is = let same : y ≡ x = cc in subst Q same m
 
 pub empty : (s : List ℕ) → length s ≡ 0 → s ≡ []
 empty [] h = refl
