@@ -21,6 +21,7 @@ const ELEMENT_COUNTS: Bounds = Bounds {
     high: MOST_ELEMENTS as u64,
 };
 
+// Kept: `?` and then the value, where `map` would serve: it is no plainer, as its closure would only call the one that is given.
 // Reads a text, of which a value is made.
 fn read_text<'a, F: Fn(&'a [u8]) -> Value<'a>>(
     bytes: &'a [u8],
@@ -37,6 +38,7 @@ fn read_text<'a, F: Fn(&'a [u8]) -> Value<'a>>(
     })
 }
 
+// Kept: `?` and then the value, as in the readers beside it; `map` is no plainer.
 // Reads an integer.
 fn read_integer(bytes: &[u8]) -> Result<Found<'_>, Stop>
     ensures { (d : ℕ) → Came 58 d bytes.now result }
