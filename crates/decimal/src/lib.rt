@@ -96,7 +96,7 @@ pub fn read<N: Decimal>(text: &[u8]) -> Option<N>
     Some(number)
 }
 
-// Kept: the caller's array is filled and the length told, since all memory is lent.
+// Kept: the caller's array is filled and the length told, since the array is the caller's own and its bytes behind the text stay as they were: a text of its own would not keep them.
 // Writes the text of a number to the beginning of `out`, and tells its length.
 pub fn write<N: Decimal>(number: N, out: &mut [u8; LONGEST_TEXT]) -> usize
     ensures size { result ≡ length (N.text number) }

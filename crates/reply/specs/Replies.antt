@@ -1,8 +1,9 @@
 -- What the server says: reply values, the bytes of each, and which values are lawful.
-use Rattle.std.specs.Prelude.{ℕ, zero, suc, ◌<◌, ◌≤◌, List, [], ◌∷◌, ◌++◌, length, ℤ, decimal, FitsSigned, ◌≢◌}
+use Rattle.std.specs.Prelude.{ℕ, zero, suc, ◌≤◌, List, [], ◌∷◌, ◌++◌, length, ℤ, decimal, FitsSigned, ◌≢◌}
 use Rattle.std.specs.Int.{w64}
 use Rattle.std.specs.List.{AllByRecursion}
 use Rattle.std.specs.Fmt.{signed_decimal}
+use Rattle.wire.specs.Steps.{crlf, Byte, Bytes}
 
 -- the most bytes of a text, and of a bulk string
 abbrev pub longest_text : ℕ
@@ -39,10 +40,6 @@ abbrev pub count : Replies → ℕ
 count none = 0
 count (then v vs) = suc (count vs)
 
--- CR LF
-abbrev pub crlf : List ℕ
-crlf = 13 ∷ 10 ∷ []
-
 -- a line: its mark, its text, CR LF
 abbrev pub line : ℕ → List ℕ → List ℕ
 line mark t = mark ∷ (t ++ crlf)
@@ -71,13 +68,9 @@ abbrev mutual
   row_of none = []
   row_of (then v vs) = bytes_of v ++ row_of vs
 
--- a byte
-abbrev pub Byte : ℕ → Type 0
-Byte b = b < 256
-
 -- a byte that a text may hold: neither CR nor LF
 abbrev pub Letter : ℕ → Type 0
-Letter b = (b < 256) × (b ≢ 13) × (b ≢ 10)
+Letter b = Byte b × (b ≢ 13) × (b ≢ 10)
 
 -- a text that fits into a line
 abbrev pub Text : List ℕ → Type 0
@@ -85,7 +78,7 @@ Text t = (length t ≤ longest_text) × AllByRecursion Letter t
 
 -- bytes that fit into a bulk string
 abbrev pub Bulk : List ℕ → Type 0
-Bulk b = (length b ≤ longest_bulk) × AllByRecursion Byte b
+Bulk b = (length b ≤ longest_bulk) × Bytes b
 
 abbrev mutual
   -- a value within its limits, where d arrays may lie inside one another; a nil array counts as one

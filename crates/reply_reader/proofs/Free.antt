@@ -2,7 +2,8 @@
 use Rattle.std.proofs.Common.{◌≡◌, ℕ, zero, suc, ◌^◌, ◌<◌, List, ◌∷◌, ◌++◌, length, ℤ, pos, negsuc, decimal, sym, refl, ap, ◌∙◌, subst, ⊎_elim, append_assoc, arith, w64, SFits}
 use Rattle.std.specs.Fmt.{signed_decimal}
 use Rattle.std.proofs.lemmas.List.{append_cancel_left}
-use Rattle.reply.specs.Replies.{Reply, Replies, text, error, integer, bulk, nil, nil_array, array, none, then, count, crlf, nil_text, bytes_of, row_of, Lawful, EachLawful, Bulk}
+use Rattle.reply.specs.Replies.{Reply, Replies, text, error, integer, bulk, nil, nil_array, array, none, then, count, nil_text, bytes_of, row_of, Lawful, EachLawful, Bulk}
+use Rattle.wire.specs.Steps.{crlf}
 use Rattle.wire.proofs.Numbers.{number_free}
 use Rattle.wire.proofs.Sizes.{filled_free}
 use Rattle.reply_reader.proofs.LineLemmas.{text_free, minus_first}

@@ -4,8 +4,8 @@ use Rattle.std.specs.List.{AllByRecursion, prefix_len}
 use Rattle.std.proofs.lemmas.Bool.Decides.{nat_tests}
 use Rattle.std.specs.Fmt.{signed_decimal}
 use Rattle.std.proofs.lemmas.List.{append_cancel_left, length-take-le}
-use Rattle.reply.specs.Replies.{crlf, longest_text, Byte, Letter, Text}
-use Rattle.wire.specs.Steps.{Between, Just, Number}
+use Rattle.reply.specs.Replies.{longest_text, Letter, Text}
+use Rattle.wire.specs.Steps.{crlf, Byte, Between, Just, Number}
 use Rattle.reply_reader.specs.Steps.{NoMinus, Integers, Heads, Run, Texts}
 use Rattle.wire.proofs.Sets.{meet, Back}
 use Rattle.wire.proofs.Numbers.{leads_digit}

@@ -4,9 +4,9 @@ use Rattle.std.specs.Borrow.{Bor}
 use Rattle.std.proofs.lemmas.List.{length-replicate}
 use Rattle.std.specs.Fmt.{signed_decimal}
 use Rattle.std.proofs.lemmas.Result.{MatchResult-weaker, MatchResult-from_both, IfOk-weaker, IfErr-weaker}
-use Rattle.reply.specs.Replies.{Reply, Replies, text, error, integer, bulk, nil, nil_array, array, count, crlf, nil_text, longest_bulk, bytes_of, row_of, Lawful, Bulk}
+use Rattle.reply.specs.Replies.{Reply, Replies, text, error, integer, bulk, nil, nil_array, array, count, nil_text, longest_bulk, bytes_of, row_of, Lawful, Bulk}
 use Rattle.reply_reader.specs.Reading.{Says, Means}
-use Rattle.wire.specs.Steps.{Stopped, Filled}
+use Rattle.wire.specs.Steps.{crlf, Stopped, Filled}
 use Rattle.reply_reader.specs.Steps.{Finds, After, Came, Texts, TextSaid, Integers, Heads}
 use Rattle.reply_reader.specs.declared.Found.{Found}
 use Rattle.reply_reader.specs.declared.Value.{Value}

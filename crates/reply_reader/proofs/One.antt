@@ -1,8 +1,8 @@
 -- At most one answer is right, and what follows from that.
-use Rattle.std.proofs.Common.{◌≡◌, ℕ, ◌+◌, ◌-◌, ◌<◌, ◌≤◌, List, [], ◌∷◌, ◌++◌, length, take, drop, Ok, Err, Result, sym, refl, ap, ◌∙◌, subst, inr, ⊎_elim, append_assoc, append-nil, arith, length-append, take-append-drop}
+use Rattle.std.proofs.Common.{◌≡◌, ℕ, ◌+◌, ◌-◌, ◌<◌, List, [], ◌∷◌, ◌++◌, length, take, drop, Ok, Err, Result, sym, refl, ap, ◌∙◌, subst, inr, ⊎_elim, append_assoc, append-nil, arith, length-append, take-append-drop}
 use Rattle.std.specs.Prelude.{◌⊎◌, MatchResult, IfNone}
 use Rattle.std.specs.Result.{result_ok}
-use Rattle.std.proofs.lemmas.List.{take-take}
+use Rattle.wire.proofs.Sets.{shorter}
 use Rattle.std.proofs.lemmas.Bool.{cases_order}
 use Rattle.reply.specs.Replies.{Reply, array, bytes_of, Lawful, deepest}
 use Rattle.reply.proofs.Overs.{from, arrays}
@@ -18,14 +18,6 @@ use Rattle.wire.specs.declared.stop.ReadError.TheVariants.{More, Fault}
 use Rattle.wire.specs.declared.stop.Stop.{Stop}
 use Rattle.wire.specs.declared.stop.Stop.TheVariants.{Short as Ended, At}
 use Rattle.reply_reader.proofs.Free.{free}
-
--- a beginning of a beginning
-shorter : (s w : List ℕ) (m n : ℕ) → m ≤ n → Begins (take n s) w → Begins (take m s) w
-shorter s w m n h b =
-    let front : take m (take n s) ++ drop m (take n s) ≡ take n s = take-append-drop m (take n s) in (
-      drop m (take n s) ++ b.0,
-      b.1 ∙ ap (λ l. l ++ b.0) (sym front) ∙ ap (λ l. (l ++ drop m (take n s)) ++ b.0) (take-take m n s h) ∙ append_assoc (take m s) (drop m (take n s)) b.0,
-    )
 
 sooner : (s : List ℕ) (p q : ℕ) → p < q → Strays (Says deepest) s p → Strays (Says deepest) s q → ⊥
 sooner s p q h x y = x.leaves y.word y.lawful (shorter s y.word (p + 1) q (omega arith) y.begins)

@@ -1,9 +1,9 @@
 -- Values one after another, and arrays of them.
 use Rattle.std.proofs.Common.{◌≡◌, ℕ, zero, suc, ◌+◌, ◌-◌, ◌≤◌, List, [], ◌∷◌, ◌++◌, length, take, decimal, sym, refl, ap, ◌∙◌, subst, inl, inr, ⊎_elim, append_assoc, append-nil, arith, length-append}
 use Rattle.std.proofs.lemmas.List.{take_at}
-use Rattle.reply.specs.Replies.{Reply, Replies, array, nil, nil_array, none, then, count, crlf, nil_text, most_elements, bytes_of, row_of, Lawful, EachLawful}
+use Rattle.reply.specs.Replies.{Reply, Replies, array, nil, nil_array, none, then, count, nil_text, most_elements, bytes_of, row_of, Lawful, EachLawful}
 use Rattle.reply_reader.specs.Reading.{Says}
-use Rattle.wire.specs.Steps.{Stopped}
+use Rattle.wire.specs.Steps.{crlf, Stopped}
 use Rattle.reply_reader.specs.Steps.{After, Heads, Rows}
 use Rattle.wire.specs.declared.stop.Stop.{Stop}
 use Rattle.wire.proofs.Sets.{Front, Back, front, back}

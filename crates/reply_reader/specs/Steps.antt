@@ -4,10 +4,10 @@ use Rattle.std.specs.Int.{w64}
 use Rattle.std.specs.List.{AllByRecursion}
 use Rattle.std.specs.Fmt.{signed_decimal}
 use Rattle.std.specs.Borrow.{Bor}
-use Rattle.reply.specs.Replies.{Reply, Replies, count, bytes_of, row_of, Lawful, EachLawful, crlf, nil_text, Letter, Text}
+use Rattle.reply.specs.Replies.{Reply, Replies, count, bytes_of, row_of, Lawful, EachLawful, nil_text, Letter, Text}
 use Rattle.reply_reader.specs.Reading.{Says, Means}
 use Rattle.reply_reader.specs.declared.Found.{Found}
-use Rattle.wire.specs.Steps.{Stopped, Between, Number}
+use Rattle.wire.specs.Steps.{crlf, Stopped, Between, Number}
 use Rattle.wire.specs.declared.stop.Stop.{Stop}
 use Rattle.reply_reader.specs.declared.Value.{Value}
 

@@ -17,6 +17,7 @@ pub use wire::ReadError;
 // How many arrays may lie inside one another, the outermost included.
 pub const DEEPEST: usize = 4;
 
+// Kept: an array has its bytes and its number, which stay told while `Elements`, made of them, moves past its elements.
 // A reply value. Texts, errors and bulk strings are parts of the bytes that were read; of an array there are the bytes of its elements, and their number.
 #[derive(Clone, Copy)]
 pub enum Value<'a> {
@@ -43,6 +44,7 @@ pub struct FirstReply<'a> {
     pub size: usize,
 }
 
+// Kept: the bytes and the number that are left, side by side, since the bytes alone do not tell where the elements end.
 // The elements of an array that are still to be read.
 #[derive(Clone, Copy)]
 pub struct Elements<'a> {
@@ -84,15 +86,15 @@ pub fn read(bytes: &[u8]) -> Result<FirstReply<'_>, ReadError>
 }
 
 // The element that comes next, if there is one.
-fn element(rest: &[u8], left: usize) -> Option<Found<'_>>
-    ensures there { IfSome result (λ _. 0 < left) }
-    ensures found { IfSome result (Finds deepest rest.now) }
-    ensures none { IfNone result ((left ≡ 0) ⊎ NoReply rest.now) }
+fn element(elements: Elements<'_>) -> Option<Found<'_>>
+    ensures there { IfSome result (λ _. 0 < elements.entry.left) }
+    ensures found { IfSome result (Finds deepest elements.entry.rest.now) }
+    ensures none { IfNone result ((elements.entry.left ≡ 0) ⊎ NoReply elements.entry.rest.now) }
 {
-    if left == 0 {
+    if elements.left == 0 {
         return None;
     }
-    read_value(rest, DEEPEST).ok()
+    read_value(elements.rest, DEEPEST).ok()
 }
 
 impl<'a> Value<'a> {
@@ -119,7 +121,7 @@ impl<'a> Iterator for Elements<'a> {
 
     // The next element, if there is one.
     fn next(&mut self) -> Option<Value<'a>> {
-        let found = element(self.rest, self.left)?;
+        let found = element(*self)?;
         self.rest = found.rest;
         self.left -= 1;
         Some(found.value)

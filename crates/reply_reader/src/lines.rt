@@ -2,8 +2,8 @@
 ghost use Rattle.std.specs.Prelude.{◌≡◌, ◌∷◌, ◌++◌, IfSome, IfNone, IfOk, IfErr, FitsSigned};
 ghost use Rattle.std.specs.Int.{w64};
 ghost use Rattle.std.specs.Fmt.{signed_decimal};
-ghost use Rattle.reply.specs.Replies.{crlf, longest_text, Text};
-ghost use Rattle.wire.specs.Steps.{Stopped};
+ghost use Rattle.reply.specs.Replies.{longest_text, Text};
+ghost use Rattle.wire.specs.Steps.{crlf, Stopped};
 ghost use Rattle.reply_reader.specs.Steps.{NoMinus, Integers, Heads, Head, Run, Texts};
 
 use reply::LONGEST_TEXT;
@@ -33,6 +33,7 @@ fn minus(bytes: &[u8]) -> Option<&[u8]>
     Some(rest)
 }
 
+// Kept: the number `n` below 0 is made as -1 - (n - 1), since 2 to the power 63 itself is no `i64`; the bounds make each `as` exact.
 // Passes an integer and CR LF.
 pub fn integer_line(bytes: &[u8]) -> Result<(i64, &[u8]), Stop>
     ensures fits { IfOk result (λ p. FitsSigned w64 p.0) }

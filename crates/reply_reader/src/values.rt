@@ -21,6 +21,7 @@ const ELEMENT_COUNTS: Bounds = Bounds {
     high: MOST_ELEMENTS as u64,
 };
 
+// Kept: `?` and then the value, where `map` would serve: it is no plainer, as its closure would only call the one that is given.
 // Reads a text, of which a value is made.
 fn read_text<'a, F: Fn(&'a [u8]) -> Value<'a>>(
     bytes: &'a [u8],
@@ -37,6 +38,7 @@ fn read_text<'a, F: Fn(&'a [u8]) -> Value<'a>>(
     })
 }
 
+// Kept: `?` and then the value, as in the readers beside it; `map` is no plainer.
 // Reads an integer.
 fn read_integer(bytes: &[u8]) -> Result<Found<'_>, Stop>
     ensures { (d : ℕ) → Came 58 d bytes.now result }
@@ -94,9 +96,7 @@ fn read_array(bytes: &[u8], depth: usize) -> Result<Found<'_>, Stop>
 pub fn read_value(bytes: &[u8], depth: usize) -> Result<Found<'_>, Stop>
     ensures { MatchResult result (λ f. Finds depth bytes.now f) (λ e. Stopped (Says depth) bytes.now e) }
 {
-    let Some((mark, rest)) = first(bytes) else {
-        return Err(Stop::Short);
-    };
+    let (mark, rest) = first(bytes).ok_or(Stop::Short)?;
     match mark as char {
         '+' => read_text(rest, Value::Text),
         '-' => read_text(rest, Value::Error),

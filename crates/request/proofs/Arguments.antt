@@ -2,19 +2,16 @@
 use Rattle.std.proofs.Common.{◌≡◌, ℕ, ◌+◌, ◌-◌, ◌≤◌, List, ◌∷◌, ◌++◌, length, take, drop, replicate, sym, refl, ap, ◌∙◌, subst, append_assoc, arith}
 use Rattle.std.proofs.lemmas.List.{length-replicate, append_cancel_left, take_at}
 use Rattle.store.specs.Limits.{longest_value}
-use Rattle.wire.specs.Steps.{Sized, Filled}
+use Rattle.wire.specs.Steps.{crlf, Sized, Filled}
 use Rattle.wire.proofs.Sets.{Front, Back}
-use Rattle.wire.proofs.Sizes.{zeros}
-use Rattle.request.specs.Grammar.{crlf, length_line, argument_text}
+use Rattle.wire.proofs.Sizes.{zeros, same_front}
+use Rattle.request.specs.Grammar.{length_line, argument_text}
 use Rattle.request.specs.Answers.{cut}
 use Rattle.request.specs.Steps.{left, LengthLine, Value, Argument, Put}
 use Rattle.request.specs.declared.taken.Part.{Part}
 use Rattle.request.specs.declared.reader.Reader.{Reader}
 use Rattle.request.proofs.Passing.{rest_is, place_is, moved}
 use Rattle.request.proofs.Marked.{line_free}
-
-same_front : (xs ys s t : List ℕ) → length xs ≡ length ys → xs ++ s ≡ ys ++ t → xs ≡ ys
-same_front xs ys s t l e = sym (take_at xs s (length ys) l) ∙ ap (take (length ys)) e ∙ take_at ys t (length ys) refl
 
 pub argument_free : (b b' t t' : List ℕ) → length b ≤ longest_value → length b' ≤ longest_value → argument_text b ++ t ≡ argument_text b' ++ t' → b ≡ b'
 argument_free b b' t t' h h' e =

@@ -1,9 +1,10 @@
 -- From the steps of the reader to what is found.
-use Rattle.std.proofs.Common.{◌≡◌, ℕ, ◌+◌, ◌<◌, ◌≤◌, List, [], ◌∷◌, ◌++◌, map, length, take, drop, Ok, Err, Result, sym, refl, ap, ◌∙◌, subst, ⊎_elim, append_assoc, append-nil, zero-add, arith, length-append, take-append-drop}
+use Rattle.std.proofs.Common.{◌≡◌, ℕ, ◌+◌, ◌<◌, ◌≤◌, List, [], ◌∷◌, ◌++◌, map, length, take, drop, Ok, Err, Result, sym, refl, ap, ◌∙◌, subst, ⊎_elim, append_assoc, append-nil, zero-add, arith, length-append}
 use Rattle.std.specs.Prelude.{IfOk, IfErr}
-use Rattle.std.proofs.lemmas.List.{take-take, take_all}
+use Rattle.std.proofs.lemmas.List.{take_all}
 use Rattle.std.proofs.lemmas.Bool.{cases_lt}
 use Rattle.wire.specs.Texts.{Begins, Short, Strays}
+use Rattle.wire.proofs.Sets.{begun, shorter}
 use Rattle.wire.specs.Steps.{Refused}
 use Rattle.wire.specs.declared.stop.ReadError.{ReadError}
 use Rattle.wire.specs.declared.stop.ReadError.TheVariants.{More, Fault}
@@ -13,13 +14,6 @@ use Rattle.request.specs.Steps.{left, Requests, Read}
 use Rattle.request.specs.declared.reader.Reader.{Reader}
 use Rattle.request.specs.declared.taken.Request.{Request}
 use Rattle.request.proofs.Free.{request_free}
-
--- beginnings of a beginning
-pub begun : (s w : List ℕ) (m : ℕ) → Begins s w → Begins (take m s) w
-begun s w m b = (drop m s ++ b.0, b.1 ∙ ap (λ l. l ++ b.0) (sym (take-append-drop m s)) ∙ append_assoc (take m s) (drop m s) b.0)
-
-pub shorter : (s w : List ℕ) (m n : ℕ) → m ≤ n → Begins (take n s) w → Begins (take m s) w
-shorter s w m n h b = subst (λ x. Begins x w) (take-take m n s h) (begun (take n s) w m b)
 
 module _ (s : List ℕ) where
   pub lacks : Short Requests s → Lacks s

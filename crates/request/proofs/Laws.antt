@@ -7,12 +7,12 @@ use Rattle.std.proofs.lemmas.List.{drop_at, take_at, take_all, take-take, take-a
 use Rattle.std.proofs.lemmas.Bool.{cases_lt}
 use Rattle.store.specs.Limits.{longest_value}
 use Rattle.wire.specs.Texts.{Begins}
-use Rattle.request.specs.Grammar.{Arguments, longest_request, crlf, line, count_line, length_line, argument_text, request_text, Lawful}
+use Rattle.wire.specs.Steps.{crlf}
+use Rattle.request.specs.Grammar.{Arguments, longest_request, line, count_line, length_line, argument_text, request_text, Lawful}
 use Rattle.request.specs.Answers.{cut, parts_from, parts_of, Finding, taken, more, fault, Opens, Takes, Faults, Correct}
 use Rattle.request.specs.declared.taken.Part.{Part}
-use Rattle.wire.proofs.Sets.{meet, beyond}
+use Rattle.wire.proofs.Sets.{meet, beyond, begun, shorter}
 use Rattle.request.proofs.Free.{request_free}
-use Rattle.request.proofs.Findings.{begun, shorter}
 
 pub one : (s : List ℕ) (f g : Finding) → Correct s f → Correct s g → f ≡ g
 one s (taken args parts span) (taken others rest long) x y =

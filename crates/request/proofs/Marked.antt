@@ -1,9 +1,9 @@
 -- Lines of a mark and a number.
 use Rattle.std.proofs.Common.{◌≡◌, ℕ, ◌^◌, ◌<◌, ◌≤◌, List, [], ◌∷◌, ◌++◌, decimal, refl, ap, ◌∙◌}
-use Rattle.wire.specs.Steps.{Just, Number}
+use Rattle.wire.specs.Steps.{crlf, Just, Number}
 use Rattle.wire.proofs.Sets.{Front, Back}
 use Rattle.wire.proofs.Numbers.{begin, number_free}
-use Rattle.request.specs.Grammar.{crlf, line}
+use Rattle.request.specs.Grammar.{line}
 use Rattle.request.specs.Steps.{Line}
 
 -- two lines that begin one text are one

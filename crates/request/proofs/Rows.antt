@@ -6,10 +6,10 @@ use Rattle.std.specs.List.{flat_map, AllByRecursion}
 use Rattle.std.proofs.slice.Lists.{all_by_recursion_push}
 use Rattle.std.proofs.lemmas.List.{take_all, take_at, length-map, length-set, take_more_set, map_push, flat_map_more}
 use Rattle.store.specs.Limits.{longest_value}
-use Rattle.wire.specs.Steps.{Between}
+use Rattle.wire.specs.Steps.{Between, Bytes}
 use Rattle.wire.specs.declared.stop.Stop.{Stop}
 use Rattle.wire.proofs.Sets.{Front, Back, front}
-use Rattle.request.specs.Grammar.{Arguments, most_arguments, count_line, length_line, argument_text, Bytes, Lawful}
+use Rattle.request.specs.Grammar.{Arguments, most_arguments, count_line, length_line, argument_text, Lawful}
 use Rattle.request.specs.Answers.{cut, parts_from, arguments}
 use Rattle.request.specs.Steps.{left, Passed, Stuck, CountLine, Value, Argument, Rows, Requests, Put, PutAll, Read}
 use Rattle.request.specs.declared.taken.Part.{Part}

@@ -4,10 +4,10 @@ use Rattle.std.specs.List.{flat_map}
 use Rattle.std.proofs.lemmas.Fmt.{decimal_digit}
 use Rattle.store.specs.Limits.{longest_value}
 use Rattle.wire.specs.Texts.{Strays}
-use Rattle.request.specs.Grammar.{Arguments, crlf, count_line, argument_text, request_text, most_arguments}
+use Rattle.request.specs.Grammar.{Arguments, count_line, argument_text, request_text, most_arguments}
 use Rattle.request.specs.Answers.{Takes, Lacks, parts_of}
 use Rattle.request.specs.Laws.{WorkedCases}
-use Rattle.wire.specs.Steps.{Just, Number}
+use Rattle.wire.specs.Steps.{crlf, Just, Number}
 use Rattle.request.specs.Steps.{Line, CountLine, LengthLine, Argument, Rows, Requests}
 use Rattle.request.specs.declared.taken.Part.{Part}
 use Rattle.wire.proofs.Sets.{front_strays, back_strays, front_just, byte_other}

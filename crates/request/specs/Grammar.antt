@@ -1,7 +1,8 @@
 -- What a request is, and which bytes it has on the wire.
-use Rattle.std.specs.Prelude.{ℕ, ◌+◌, ◌*◌, ◌<◌, ◌≤◌, List, [], ◌∷◌, ◌++◌, length, decimal}
+use Rattle.std.specs.Prelude.{ℕ, ◌+◌, ◌*◌, ◌≤◌, List, ◌∷◌, ◌++◌, length, decimal}
 use Rattle.std.specs.List.{flat_map, AllByRecursion}
 use Rattle.store.specs.Limits.{longest_value}
+use Rattle.wire.specs.Steps.{crlf, Bytes}
 
 -- the most arguments that a request has, the command's name among them
 abbrev pub most_arguments : ℕ
@@ -10,10 +11,6 @@ most_arguments = 16
 -- the arguments of a request, number 0 first
 abbrev pub Arguments : Type 0
 Arguments = List (List ℕ)
-
--- CR LF
-abbrev pub crlf : List ℕ
-crlf = 13 ∷ 10 ∷ []
 
 -- a mark, a number in decimal and CR LF
 abbrev pub line : ℕ → ℕ → List ℕ
@@ -42,9 +39,6 @@ longest_request = 5 + most_arguments * (5 + longest_value + 2)
 -- one to `most_arguments` arguments, none longer than a value
 abbrev pub Fits : Arguments → Type 0
 Fits args = (1 ≤ length args) × (length args ≤ most_arguments) × AllByRecursion (λ b. length b ≤ longest_value) args
-
-abbrev pub Bytes : List ℕ → Type 0
-Bytes s = AllByRecursion (λ x. x < 256) s
 
 -- the arguments of a lawful request
 abbrev pub Lawful : Arguments → Type 0

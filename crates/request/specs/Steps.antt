@@ -2,9 +2,9 @@
 use Rattle.std.specs.Prelude.{◌≡◌, ℕ, ◌+◌, ◌≤◌, List, ◌++◌, map, length, drop}
 use Rattle.std.specs.List.{flat_map, AllByRecursion}
 use Rattle.store.specs.Limits.{longest_value}
-use Rattle.wire.specs.Steps.{Stopped, Between}
+use Rattle.wire.specs.Steps.{Stopped, Between, Bytes}
 use Rattle.wire.specs.declared.stop.Stop.{Stop}
-use Rattle.request.specs.Grammar.{Arguments, most_arguments, line, count_line, length_line, argument_text, request_text, Bytes, Lawful}
+use Rattle.request.specs.Grammar.{Arguments, most_arguments, line, count_line, length_line, argument_text, request_text, Lawful}
 use Rattle.request.specs.Answers.{cut, parts_from, parts_in, arguments}
 use Rattle.request.specs.declared.taken.Part.{Part}
 use Rattle.request.specs.declared.taken.Request.{Request}

@@ -1,9 +1,9 @@
 -- How the end of a step is carried to the whole that the step is a part of.
-use Rattle.std.proofs.Common.{◌≡◌, ℕ, zero, suc, ◌+◌, ◌<◌, true, false, eqb, ◌⊎◌, List, [], ◌∷◌, ◌++◌, length, take, drop, sym, refl, ap, ◌∙◌, subst, inl, inr, ⊎_elim, append_assoc, append-nil, add_assoc, add-one, arith, length-append, take-append-drop}
+use Rattle.std.proofs.Common.{Ok, ◌≡◌, ℕ, zero, suc, ◌+◌, ◌<◌, ◌≤◌, true, false, eqb, ◌⊎◌, List, [], ◌∷◌, ◌++◌, length, take, drop, sym, refl, ap, ◌∙◌, subst, inl, inr, ⊎_elim, append_assoc, append-nil, add_assoc, add-one, arith, length-append, take-append-drop}
 use Rattle.std.specs.Prelude.{None, Some, Option, MatchOption, IfErr}
 use Rattle.std.specs.Option.{ok_or}
 use Rattle.std.proofs.Math.Seq.{take-append-add}
-use Rattle.std.proofs.lemmas.List.{append_cancel_left}
+use Rattle.std.proofs.lemmas.List.{append_cancel_left, take-take}
 use Rattle.std.proofs.lemmas.Bool.{eqb-true}
 use Rattle.wire.specs.Texts.{Begins, Short, Strays}
 use Rattle.wire.specs.Steps.{Stopped, Just}
@@ -14,6 +14,11 @@ use Rattle.wire.specs.declared.stop.Stop.TheVariants.{Short as Ended, At}
 pub missed : {X E : Type 0} (o : Option X) (e : E) (P : Type 0) (Q : X → Type 0) (R : E → Type 0) → MatchOption o P Q → (P → R e) → IfErr (ok_or o e) R
 missed None e P Q R m f = f m
 missed (Some x) e P Q R m f = tt
+
+-- a step that found something
+pub found : {X E : Type 0} (o : Option X) (e : E) (P : Type 0) (Q : X → Type 0) (x : X) → MatchOption o P Q → ok_or o e ≡ Ok x → Q x
+found None e P Q x m is = absurd cc
+found (Some y) e P Q x m is = let same : y ≡ x = cc in subst Q same m
 
 pub empty : (s : List ℕ) → length s ≡ 0 → s ≡ []
 empty [] h = refl
@@ -37,6 +42,13 @@ meet (x ∷ xs) (y ∷ ys) s t e =
 
 pub beyond : (xs ys zs : List ℕ) → Begins xs ys → Begins xs (ys ++ zs)
 beyond xs ys zs b = (b.0 ++ zs, ap (λ l. l ++ zs) b.1 ∙ append_assoc xs b.0 zs)
+
+-- beginnings of a beginning
+pub begun : (s w : List ℕ) (m : ℕ) → Begins s w → Begins (take m s) w
+begun s w m b = (drop m s ++ b.0, b.1 ∙ ap (λ l. l ++ b.0) (sym (take-append-drop m s)) ∙ append_assoc (take m s) (drop m s) b.0)
+
+pub shorter : (s w : List ℕ) (m n : ℕ) → m ≤ n → Begins (take n s) w → Begins (take m s) w
+shorter s w m n h b = subst (λ x. Begins x w) (take-take m n s h) (begun (take n s) w m b)
 
 module _ (L P : List ℕ → Type 0) (s : List ℕ) where
   -- P is a front part of L

@@ -1,30 +1,25 @@
 -- Bytes by their number, with CR LF behind them.
-use Rattle.std.proofs.Common.{◌≡◌, ℕ, zero, suc, ◌-◌, ◌<◌, List, [], ◌∷◌, ◌++◌, length, get_or, take, replicate, sym, refl, ap, ◌∙◌, append_assoc, arith, length-append}
-use Rattle.std.specs.List.{AllByRecursion}
+use Rattle.std.proofs.Common.{◌≡◌, ℕ, suc, ◌-◌, ◌<◌, List, [], ◌∷◌, ◌++◌, length, get_or, take, replicate, sym, refl, ap, ◌∙◌, append_assoc, arith, length-append}
+use Rattle.std.proofs.lemmas.List.Elements.{All-replicate, All-append, All-from_recursion, recursion_from_All}
 use Rattle.std.proofs.lemmas.List.{length-replicate, take_at}
 use Rattle.wire.specs.Texts.{Short}
-use Rattle.wire.specs.Steps.{crlf, Byte, Just, Sized, Filled}
+use Rattle.wire.specs.Steps.{crlf, Byte, Bytes, Just, Sized, Filled}
 use Rattle.wire.proofs.Sets.{Front, Back}
 
-pub bytes_from : (s : List ℕ) → ((i : ℕ) → get_or s i 0 < 256) → AllByRecursion Byte s
+pub bytes_from : (s : List ℕ) → ((i : ℕ) → get_or s i 0 < 256) → Bytes s
 bytes_from [] h = tt
 bytes_from (x ∷ s) h = (h 0, bytes_from s (λ i. h (suc i)))
 
-every-++ : (P : ℕ → Type 0) (s t : List ℕ) → AllByRecursion P s → AllByRecursion P t → AllByRecursion P (s ++ t)
-every-++ P [] t h k = k
-every-++ P (x ∷ s) t h k = (h.0, every-++ P s t h.1 k)
+pub zeros : (n : ℕ) → Bytes (replicate n 0)
+zeros n = recursion_from_All Byte (replicate n 0) (All-replicate Byte n 0 (omega arith))
 
-pub zeros : (n : ℕ) → AllByRecursion Byte (replicate n 0)
-zeros zero = tt
-zeros (suc n) = (omega arith, zeros n)
-
-pub sized_short : (n : ℕ) (s : List ℕ) → AllByRecursion Byte s → length s < n → Short (Sized n) s
+pub sized_short : (n : ℕ) (s : List ℕ) → Bytes s → length s < n → Short (Sized n) s
 sized_short n s bytes h =
     let m = n - length s - 1 in
     let k : length (replicate {A = ℕ} m 0) ≡ m = length-replicate m 0 in
     record {
       word = s ++ (0 ∷ replicate m 0);
-      lawful = (length-append s (0 ∷ replicate m 0) ∙ (omega arith), every-++ Byte s (0 ∷ replicate m 0) bytes (omega arith, zeros m));
+      lawful = (length-append s (0 ∷ replicate m 0) ∙ (omega arith), recursion_from_All Byte _ (All-append Byte s (0 ∷ replicate m 0) (All-from_recursion Byte s bytes) (All-replicate Byte (suc m) 0 (omega arith))));
       next = 0;
       rest = replicate m 0;
       split = refl;
@@ -33,7 +28,7 @@ sized_short n s bytes h =
 pub front_filled : (n : ℕ) (s : List ℕ) → Front (Filled n) (Sized n) s
 front_filled n s = record { grows = λ v l. (crlf, (v, l, refl)); parts = λ w l. (l.0, crlf, l.1, l.2) }
 
-same_front : (xs ys s t : List ℕ) → length xs ≡ length ys → xs ++ s ≡ ys ++ t → xs ≡ ys
+pub same_front : (xs ys s t : List ℕ) → length xs ≡ length ys → xs ++ s ≡ ys ++ t → xs ≡ ys
 same_front xs ys s t l e = sym (take_at xs s (length ys) l) ∙ ap (take (length ys)) e ∙ take_at ys t (length ys) refl
 
 pub filled_free : (b t y r : List ℕ) → length b ≡ length t → (b ++ crlf) ++ y ≡ t ++ r → b ≡ t

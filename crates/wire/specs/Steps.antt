@@ -1,5 +1,5 @@
 -- What each step says of the bytes that it is given.
-use Rattle.std.specs.Prelude.{◌≡◌, ℕ, ◌+◌, ◌-◌, ◌<◌, ◌≤◌, List, [], ◌∷◌, ◌++◌, length, decimal, ◌≢◌}
+use Rattle.std.specs.Prelude.{◌≡◌, ℕ, ◌+◌, ◌<◌, ◌≤◌, List, [], ◌∷◌, ◌++◌, length, decimal, ◌≢◌}
 use Rattle.std.specs.List.{AllByRecursion}
 use Rattle.wire.specs.Texts.{Short, Strays}
 use Rattle.wire.specs.declared.stop.Stop.{Stop}
@@ -17,11 +17,6 @@ abbrev pub Stopped : (List ℕ → Type 0) → List ℕ → Stop → Type 0
 Stopped L s Ended = Short L s
 Stopped L s (At k) = (p : ℕ) × (p + k ≡ length s) × Strays L s p
 
--- what a stop in n bytes tells from their front
-abbrev pub SeenFrom : ℕ → Stop → ReadError → Type 0
-SeenFrom n Ended e = e ≡ More
-SeenFrom n (At k) e = e ≡ Fault (n - k)
-
 -- CR LF
 abbrev pub crlf : List ℕ
 crlf = 13 ∷ 10 ∷ []
@@ -29,6 +24,9 @@ crlf = 13 ∷ 10 ∷ []
 -- a byte
 abbrev pub Byte : ℕ → Type 0
 Byte b = b < 256
+
+abbrev pub Bytes : List ℕ → Type 0
+Bytes s = AllByRecursion Byte s
 
 -- just one text
 abbrev pub Just : List ℕ → List ℕ → Type 0
@@ -51,7 +49,7 @@ Ends high n s = (c : ℕ) (r : List ℕ) → s ≡ c ∷ r → (m : ℕ) → m �
 
 -- n bytes
 abbrev pub Sized : ℕ → List ℕ → Type 0
-Sized n b = (length b ≡ n) × AllByRecursion Byte b
+Sized n b = (length b ≡ n) × Bytes b
 
 -- n bytes and CR LF
 abbrev pub Filled : ℕ → List ℕ → Type 0

@@ -1,10 +1,11 @@
 // The steps of a reader. Each is given the bytes left to read, and tells those that it leaves.
-ghost use Rattle.std.specs.Prelude.{◌≡◌, ◌+◌, ◌^◌, ◌<◌, ◌≤◌, [], ◌∷◌, ◌++◌, decimal, MatchOption, IfSome, IfNone, IfOk, IfErr};
+ghost use Rattle.std.specs.Prelude.{◌≡◌, ◌+◌, ◌<◌, [], ◌∷◌, ◌++◌, decimal, MatchOption, IfSome, IfNone, IfOk, IfErr};
 ghost use Rattle.wire.specs.Steps.{Stopped, crlf, Just, Between, Number, NoDigit, Ends, Sized, Filled};
 
 use crate::bounds::Bounds;
 use crate::stop::Stop;
 
+// Kept: beside std's `split_first`, since that lends the byte, and a step wants its value: it is copied here once, and one clause tells which bytes there were.
 // The first byte, and the others.
 pub fn first(bytes: &[u8]) -> Option<(u8, &[u8])>
     ensures { MatchOption result (bytes.now ≡ []) (λ p. bytes.now ≡ p.0 ∷ p.1.now) }
@@ -17,9 +18,7 @@ pub fn pass(bytes: &[u8], b: u8) -> Result<&[u8], Stop>
     ensures passed { IfOk result (λ rest. bytes.now ≡ b ∷ rest.now) }
     ensures stopped { IfErr result (Stopped (Just (b ∷ [])) bytes.now) }
 {
-    let Some((c, rest)) = first(bytes) else {
-        return Err(Stop::Short);
-    };
+    let (c, rest) = first(bytes).ok_or(Stop::Short)?;
     if c != b {
         return Err(Stop::At(bytes.len()));
     }
@@ -56,6 +55,7 @@ fn digit(bytes: &[u8]) -> Option<(u64, &[u8])>
     Some((u64::from(b - b'0'), rest))
 }
 
+// Kept: the digits are summed here by hand, since std's `parse` takes a whole text, and here the longest numeral that begins the bytes is sought; `while let`, since the number and the rest move together.
 // Passes the longest numeral that begins one of a number within the bounds.
 fn digits(bytes: &[u8], bounds: Bounds) -> Result<(u64, &[u8]), Stop>
     ensures within { IfOk result (λ p. Between bounds.low bounds.high p.0) }
@@ -66,9 +66,7 @@ fn digits(bytes: &[u8], bounds: Bounds) -> Result<(u64, &[u8]), Stop>
     if bytes.is_empty() {
         return Err(Stop::Short);
     }
-    let Some((mut n, mut rest)) = digit(bytes) else {
-        return Err(Stop::At(bytes.len()));
-    };
+    let (mut n, mut rest) = digit(bytes).ok_or(Stop::At(bytes.len()))?;
     if n < bounds.low {
         return Err(Stop::At(bytes.len()));
     }
@@ -93,6 +91,7 @@ pub fn number(bytes: &[u8], bounds: Bounds) -> Result<(u64, &[u8]), Stop>
     Ok((n, rest))
 }
 
+// Kept: beside std's `split_at_checked`, which says only when there is none; here it is told of which texts too few bytes are a beginning, in one clause for those that are passed on.
 // Passes so many bytes.
 fn part(bytes: &[u8], size: usize) -> Result<(&[u8], &[u8]), Stop>
     ensures sized { IfOk result (λ p. Sized size p.0.now) }

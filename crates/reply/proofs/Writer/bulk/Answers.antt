@@ -1,8 +1,9 @@
 use Rattle.std.proofs.Common.{◌++◌, length, decimal, refl, ap, ◌∙◌, append_assoc, arith}
-use Rattle.reply.specs.Replies.{crlf, line}
+use Rattle.wire.proofs.Sizes.{bytes_from}
+use Rattle.reply.specs.Replies.{line}
+use Rattle.wire.specs.Steps.{crlf}
 use Rattle.reply.specs.Written.{over}
-use Rattle.reply.proofs.Letters.{bulk_long, bytes_from}
-use Rattle.reply.proofs.Writers.{lays_more, lays_count, lays_bytes}
+use Rattle.reply.proofs.Writers.{bulk_long, lays_more, lays_count, lays_bytes}
 use Rattle.reply.proofs.Writer.bulk.Goals as goal
 
 pub lay-requires : goal.lay-requires

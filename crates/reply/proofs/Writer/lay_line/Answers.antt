@@ -1,5 +1,5 @@
 use Rattle.std.proofs.Common.{[], ◌∷◌, arith, length-append}
-use Rattle.reply.specs.Replies.{crlf}
+use Rattle.wire.specs.Steps.{crlf}
 use Rattle.reply.proofs.Writers.{lays_long, lays_more}
 use Rattle.reply.proofs.Writer.lay_line.Goals as goal
 

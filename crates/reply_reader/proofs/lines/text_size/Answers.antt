@@ -5,7 +5,7 @@ use Rattle.std.proofs.lemmas.Iterator.Search.{YieldsList-from_take_while}
 use Rattle.std.proofs.lemmas.List.Folds.{length-prefix_len}
 use borrow.Author.Tests.{tests}
 use Rattle.reply.specs.Replies.{longest_text}
-use Rattle.reply.proofs.Letters.{bytes_from}
+use Rattle.wire.proofs.Sizes.{bytes_from}
 use Rattle.reply_reader.specs.Steps.{Run}
 use Rattle.reply_reader.proofs.LineLemmas.{is_letter, run_of}
 use Rattle.reply_reader.proofs.lines.text_size.Goals as goal

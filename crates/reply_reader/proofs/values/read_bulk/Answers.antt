@@ -1,7 +1,7 @@
 use Rattle.std.proofs.Common.{◌∷◌, ◌++◌, decimal, sym, refl, ap, ◌∙◌, subst, append_assoc, arith}
-use Rattle.std.proofs.lemmas.Result.{err_from_is_err_and}
-use Rattle.reply.specs.Replies.{bulk, crlf, longest_bulk}
-use Rattle.wire.specs.Steps.{Filled}
+use Rattle.reply.specs.Replies.{bulk, longest_bulk}
+use Rattle.wire.proofs.Stops.{passed_on_by_cases}
+use Rattle.wire.specs.Steps.{crlf, Filled}
 use Rattle.reply_reader.specs.Steps.{After, Heads, Head}
 use Rattle.wire.proofs.Sets.{front, back}
 use Rattle.reply_reader.proofs.Marks.{front_bulk, back_bulk}
@@ -9,15 +9,13 @@ use Rattle.reply_reader.proofs.values.read_bulk.Goals as goal
 
 pub returns-in_err-size : goal.returns-in_err-size
 returns-in_err-size c =
-    let p = err_from_is_err_and c.from_residual.result c.from_residual.ensures.1 in
-    rw (p.1, p.2) (λ d. front (After 36 d) (Heads 0 longest_bulk) _ _ (front_bulk d _) c.in_err-size.ensures.stopped)
+    λ d. passed_on_by_cases _ _ c.from_residual.result c.from_residual.ensures.1 (front (After 36 d) (Heads 0 longest_bulk) _ _ (front_bulk d _) c.in_err-size.ensures.stopped)
 
 pub returns-in_err-it : goal.returns-in_err-it
 returns-in_err-it c =
-    let p = err_from_is_err_and c.from_residual-in_err-it.result c.from_residual-in_err-it.ensures.1 in
     let n = c.in-Some.n in
     let told = subst (λ o. Head 0 longest_bulk c.args.bytes.now o c.in_ok-size.after.now) c.in-Some.is c.in_ok-size.ensures.passed in
-    rw (p.1, p.2) (λ d. back (After 36 d) (Filled n) (decimal n ++ crlf) _ _ _ told.1 (back_bulk d n _ told.0.1) c.in_err-it.ensures.stopped)
+    λ d. passed_on_by_cases _ _ c.from_residual-in_err-it.result c.from_residual-in_err-it.ensures.1 (back (After 36 d) (Filled n) (decimal n ++ crlf) _ _ _ told.1 (back_bulk d n _ told.0.1) c.in_err-it.ensures.stopped)
 
 pub returns : goal.returns
 returns c =

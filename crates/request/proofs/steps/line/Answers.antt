@@ -1,5 +1,6 @@
 use Rattle.std.proofs.Common.{[], ◌∷◌, ap, ◌∙◌, arith}
-use Rattle.std.proofs.lemmas.Result.{err_from_is_err_and, IfOk-weaker, IfErr-weaker}
+use Rattle.std.proofs.lemmas.Result.{IfOk-weaker, IfErr-weaker}
+use Rattle.wire.proofs.Stops.{passed_on}
 use Rattle.wire.specs.Steps.{Stopped, Just, Number}
 use Rattle.wire.proofs.Sets.{front, back}
 use Rattle.request.specs.Steps.{Line}
@@ -8,11 +9,10 @@ use Rattle.request.proofs.steps.line.Goals as goal
 
 pub returns-in_err-after-clause-stopped : goal.returns-in_err-after-clause-stopped
 returns-in_err-after-clause-stopped c =
-    let p = err_from_is_err_and c.from_residual.result c.from_residual.ensures.1 in
     let mark = c.args.mark in
     let low = c.args.bounds.low in
     let high = c.args.bounds.high in
-    rw (p.1, p.2) (front (Line mark low high) (Just (mark ∷ [])) _ _ (front_line mark low high _ (omega arith) (omega arith)) c.in_err-after.ensures.stopped)
+    passed_on _ c.from_residual.result c.from_residual.ensures.1 (front (Line mark low high) (Just (mark ∷ [])) _ _ (front_line mark low high _ (omega arith) (omega arith)) c.in_err-after.ensures.stopped)
 
 pub returns-clause-passed : goal.returns-clause-passed
 returns-clause-passed c =

@@ -1,15 +1,15 @@
 use Rattle.std.proofs.Common.{[], ◌∷◌}
-use Rattle.std.proofs.lemmas.Result.{err_from_is_err_and, IfErr-weaker}
+use Rattle.std.proofs.lemmas.Result.{IfErr-weaker}
+use Rattle.wire.proofs.Stops.{passed_on}
 use Rattle.wire.specs.Steps.{Stopped, Just}
 use Rattle.wire.proofs.Sets.{front, front_just, back, back_just}
 use Rattle.wire.proofs.steps.pass_both.Goals as goal
 
 pub returns-in_err-rest-clause-stopped : goal.returns-in_err-rest-clause-stopped
 returns-in_err-rest-clause-stopped c =
-    let p = err_from_is_err_and c.from_residual.result c.from_residual.ensures.1 in
     let a = c.args.a in
     let b = c.args.b in
-    rw (p.1, p.2) (front (Just (a ∷ b ∷ [])) (Just (a ∷ [])) _ _ (front_just (a ∷ []) (b ∷ []) _) c.in_err-rest.ensures.stopped)
+    passed_on _ c.from_residual.result c.from_residual.ensures.1 (front (Just (a ∷ b ∷ [])) (Just (a ∷ [])) _ _ (front_just (a ∷ []) (b ∷ []) _) c.in_err-rest.ensures.stopped)
 
 pub returns-clause-stopped : goal.returns-clause-stopped
 returns-clause-stopped c =

@@ -1,5 +1,5 @@
 use Rattle.std.proofs.Common.{sym, refl, subst, ◌∙◌}
-use Rattle.std.proofs.lemmas.Result.{err_from_is_err_and}
+use Rattle.wire.proofs.Stops.{passed_on}
 use Rattle.wire.specs.Steps.{Stopped, Filled}
 use Rattle.wire.proofs.Sets.{front, back}
 use Rattle.request.specs.Grammar.{length_line}
@@ -9,15 +9,13 @@ use Rattle.request.proofs.reader.Reader.argument.Goals as goal
 
 pub returns-in_err-size-clause-stuck : goal.returns-in_err-size-clause-stuck
 returns-in_err-size-clause-stuck c =
-    let p = err_from_is_err_and c.from_residual.result c.from_residual.ensures.1 in
-    rw (p.1, p.2) (front Argument LengthLine _ _ (front_argument _) (subst (λ s. Stopped LengthLine s c.in_err-size.field-0.0) c.rest.ensures c.in_err-size.ensures.stopped))
+    passed_on _ c.from_residual.result c.from_residual.ensures.1 (front Argument LengthLine _ _ (front_argument _) (subst (λ s. Stopped LengthLine s c.in_err-size.field-0.0) c.rest.ensures c.in_err-size.ensures.stopped))
 
 pub returns-in_err-it-clause-stuck : goal.returns-in_err-it-clause-stuck
 returns-in_err-it-clause-stuck c =
-    let p = err_from_is_err_and c.from_residual-in_err-it.result c.from_residual-in_err-it.ensures.1 in
     let n = c.in_ok-size.size in
     let told = c.in_ok-size.ensures in
-    rw (p.1, p.2) (back Argument (Filled n) (length_line n) _ _ _ (sym c.rest.ensures ∙ told.passed) (back_argument n _ told.within.1) c.in_err-it.ensures.stopped)
+    passed_on _ c.from_residual-in_err-it.result c.from_residual-in_err-it.ensures.1 (back Argument (Filled n) (length_line n) _ _ _ (sym c.rest.ensures ∙ told.passed) (back_argument n _ told.within.1) c.in_err-it.ensures.stopped)
 
 pub returns-clause-put : goal.returns-clause-put
 returns-clause-put c =

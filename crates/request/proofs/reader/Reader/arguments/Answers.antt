@@ -1,5 +1,5 @@
 use Rattle.std.proofs.Common.{◌≡◌, length, refl, subst, arith}
-use Rattle.std.proofs.lemmas.Result.{err_from_is_err_and}
+use Rattle.wire.proofs.Stops.{passed_on}
 use Rattle.request.proofs.Rows.{Sofar, none_yet, stuck, one_more, put_all}
 use Rattle.request.proofs.reader.Reader.arguments.Goals as goal
 
@@ -11,8 +11,7 @@ loop-part-preserved c = one_more _ _ (length c.args.parts.now) c.loop-part.part-
 
 pub returns-in_err-part-clause-stuck : goal.returns-in_err-part-clause-stuck
 returns-in_err-part-clause-stuck c =
-    let p = err_from_is_err_and c.from_residual.result c.from_residual.ensures.1 in
-    rw (p.1, p.2) (stuck _ _ (length c.args.parts.now) c.loop-part.part-index c.loop-part.part-items c.loop-part.invariant c.loop-part-test.true _ c.in_err-part.ensures.stuck)
+    passed_on _ c.from_residual.result c.from_residual.ensures.1 (stuck _ _ (length c.args.parts.now) c.loop-part.part-index c.loop-part.part-items c.loop-part.invariant c.loop-part-test.true _ c.in_err-part.ensures.stuck)
 
 pub returns-clause-put : goal.returns-clause-put
 returns-clause-put c =

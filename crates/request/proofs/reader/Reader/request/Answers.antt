@@ -1,8 +1,8 @@
 use Rattle.std.proofs.Common.{◌∙◌, subst, arith}
 use Rattle.std.proofs.lemmas.List.{length-take-le}
-use Rattle.std.proofs.lemmas.Result.{err_from_is_err_and}
 use Rattle.request.specs.Grammar.{count_line}
 use Rattle.request.specs.Steps.{Stuck, CountLine, Rows, Requests}
+use Rattle.wire.proofs.Stops.{passed_on}
 use Rattle.wire.proofs.Sets.{front}
 use Rattle.request.proofs.Passing.{after}
 use Rattle.request.proofs.Rows.{front_request, back_request, told}
@@ -10,16 +10,14 @@ use Rattle.request.proofs.reader.Reader.request.Goals as goal
 
 pub returns-in_err-count-clause-stuck : goal.returns-in_err-count-clause-stuck
 returns-in_err-count-clause-stuck c =
-    let p = err_from_is_err_and c.from_residual.result c.from_residual.ensures.1 in
-    rw (p.1, p.2) (front Requests CountLine _ _ (front_request _) c.in_err-count.ensures.stuck)
+    passed_on _ c.from_residual.result c.from_residual.ensures.1 (front Requests CountLine _ _ (front_request _) c.in_err-count.ensures.stuck)
 
 pub returns-in_err-arguments-clause-stuck : goal.returns-in_err-arguments-clause-stuck
 returns-in_err-arguments-clause-stuck c =
-    let p = err_from_is_err_and c.from_residual-in_err-arguments.result c.from_residual-in_err-arguments.ensures.1 in
     let n = c.in_ok-count.count in
     let head = c.in_ok-count.ensures in
     let rows : Stuck (Rows n) c.count.new.self c.in_err-arguments.field-0.0 = subst (λ k. Stuck (Rows k) c.count.new.self c.in_err-arguments.field-0.0) (length-take-le n _ (omega (arith, head.within.1))) c.in_err-arguments.ensures.stuck in
-    rw (p.1, p.2) (after Requests (Rows n) _ _ (count_line n) _ head.passed (back_request n _ head.within) rows)
+    passed_on _ c.from_residual-in_err-arguments.result c.from_residual-in_err-arguments.ensures.1 (after Requests (Rows n) _ _ (count_line n) _ head.passed (back_request n _ head.within) rows)
 
 pub returns-clause-read : goal.returns-clause-read
 returns-clause-read c =
