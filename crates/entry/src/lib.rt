@@ -125,8 +125,8 @@ impl Width {
 
 // ---- writing
 
-// Kept: in what follows the caller's array is filled and the length told, since all memory is lent and the bytes behind an entry or a value stay.
-
+// Kept: here and in what follows an array of the caller's is filled and the length told, since all memory is lent, and the bytes
+// behind what is written stay.
 // Writes bytes, and others behind them, to the beginning of `out`, and tells how many.
 fn put(first: &[u8], then: &[u8], out: &mut [u8]) -> usize
     requires { length first.now + length then.now ≤ length out.old }
@@ -166,10 +166,8 @@ fn write_number(z: i64, out: &mut [u8; LONGEST_ENTRY]) -> usize
     match Width::of(z) {
         Some(width) => write_wide(width, z, out),
         None => {
-            let bits = z.cast_unsigned();
-            let first = 0xC0 + (bits / 256 % 32) as u8;
-            let second = (bits % 256) as u8;
-            put(&[first, second], &[], out)
+            let bits = (z.cast_unsigned() % 0x2000) as u16;
+            put(&(0xC000 + bits).to_be_bytes(), &[], out)
         }
     }
 }
@@ -183,7 +181,7 @@ fn write_text(value: &Value, out: &mut [u8; LONGEST_ENTRY]) -> usize
     if n <= 63 {
         return put(&[0x80 + n as u8], value.bytes, out);
     }
-    put(&[0xE0 + (n / 256) as u8, (n % 256) as u8], value.bytes, out)
+    put(&(0xE000 + n as u16).to_be_bytes(), value.bytes, out)
 }
 
 // Writes the encoding and data of a value to the beginning of `out`, and tells their length.
@@ -210,6 +208,7 @@ fn write_entry(value: &Value, out: &mut [u8; LONGEST_ENTRY]) -> usize
 }
 
 // Writes the entry of a value to the beginning of `out`, and tells its length; none of a value that is too long.
+// Kept: the caller's array is filled and the length told, since all memory is lent, and the bytes behind the entry stay.
 pub fn encode(value: &[u8], out: &mut [u8; LONGEST_ENTRY]) -> Option<usize>
     ensures { Encoded value.now out.old out.new result }
 {
@@ -227,7 +226,7 @@ fn told_by(first: u8, second: u8) -> Option<usize>
         0x00..=0x7F => Some(1),
         0x80..=0xBF => Some(first as usize - 0x80 + 1),
         0xC0..=0xDF => Some(2),
-        0xE0..=0xEF => Some((first as usize - 0xE0) * 256 + second as usize + 2),
+        0xE0..=0xEF => Some(u16::from_be_bytes([first - 0xE0, second]) as usize + 2),
         _ => Some(Width::coded(first)?.size() + 1),
     }
 }
@@ -272,14 +271,14 @@ fn from_bits(sign: u64, bits: u64) -> i64
     -1 - (sign - 1 - (bits - sign)) as i64
 }
 
-// The integer of a width that data hold, unless a shorter form has it.
-fn read_wide(width: Width, data: &[u8]) -> Option<i64>
-    ensures { result ≡ number_in (code_of width ∷ «data».now) }
+// The integer of a width that bytes hold, unless a shorter form has it.
+fn read_wide(width: Width, bytes: &[u8]) -> Option<i64>
+    ensures { result ≡ number_in (code_of width ∷ bytes.now) }
 {
-    if data.len() != width.size() {
+    if bytes.len() != width.size() {
         return None;
     }
-    let z = from_bits(width.sign(), from_low(data));
+    let z = from_bits(width.sign(), from_low(bytes));
     (Width::of(z) == Some(width)).then_some(z)
 }
 
@@ -296,7 +295,7 @@ fn read_thirteen(b: u8, c: u8) -> Option<i64>
     if !(0xC0..0xE0).contains(&b) {
         return None;
     }
-    let z = from_bits(4096, (b as u64 - 0xC0) * 256 + c as u64);
+    let z = from_bits(0x1000, u16::from_be_bytes([b - 0xC0, c]) as u64);
     (!is_tiny(z)).then_some(z)
 }
 
@@ -308,7 +307,7 @@ fn read_number(coded: &[u8]) -> Option<i64>
         [] => None,
         [b] => read_tiny(*b),
         [b, c] => read_thirteen(*b, *c),
-        [code, data @ ..] => read_wide(Width::coded(*code)?, data),
+        [code, rest @ ..] => read_wide(Width::coded(*code)?, rest),
     }
 }
 
@@ -370,6 +369,8 @@ fn body_size(bytes: &[u8]) -> Option<usize>
 
 // Copies the value whose entry the bytes begin with to the beginning of `out`, and tells its length and that of the entry;
 // none where the bytes do not begin with just what `encode` writes of some value.
+// Kept: the caller's array is filled and the length told, since all memory is lent, and the bytes behind the value stay; the
+// value's length and the span are told as a pair, as the project asks.
 pub fn decode(bytes: &[u8], out: &mut [u8; LONGEST_VALUE]) -> Option<(usize, usize)>
     ensures exact { Decoded bytes.now out.old out.new result }
     ensures known { ReadsBack bytes.now out.old out.new result }
