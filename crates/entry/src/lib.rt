@@ -2,7 +2,7 @@
 // that hold it, any other text as it is; the length of the encoding and data stands last.
 #![tactic(auto)]
 
-ghost use Rattle.std.specs.Prelude.{◌≡◌, ◌≢◌, ◌↔◌, ◌+◌, ◌*◌, ◌%◌, ◌^◌, ◌<◌, ◌≤◌, [], ◌∷◌, ◌++◌, length, take, drop, None, IfSome, IsSome, IsTrue, IfNone, List, ℕ};
+ghost use Rattle.std.specs.Prelude.{◌≡◌, ◌≢◌, ◌↔◌, ◌+◌, ◌*◌, ◌%◌, ◌^◌, ◌<◌, ◌≤◌, [], ◌∷◌, ◌++◌, length, take, drop, Some, None, IfSome, IsSome, IsTrue, IfNone, List, ℕ};
 ghost use Rattle.std.specs.Option.{option_map, SomeIff};
 ghost use Rattle.std.specs.Int.Signed.{mag};
 ghost use Rattle.std.specs.Int.{w64, cast_unsigned};
@@ -311,9 +311,10 @@ fn read_number(coded: &[u8]) -> Option<i64>
     }
 }
 
-// The text whose encoding and data these bytes are.
+// The text whose encoding and data these bytes are; a value is so short that its length past 63 is in the second byte alone.
 fn read_text(coded: &[u8]) -> Option<Value>
-    ensures { option_map (λ v. v) result ≡ option_map (λ n. drop n coded.now) (text_in coded.now) }
+    ensures some { IfSome result (λ text. Some text ≡ option_map (λ place. drop place coded.now) (text_in coded.now)) }
+    ensures none { IfNone result (text_in coded.now ≡ None) }
 {
     match coded {
         [first @ 0x80..=0xBF, text @ ..] if text.len() == *first as usize - 0x80 => Value::new(
