@@ -2,15 +2,14 @@
 // that hold it, any other text as it is; the length of the encoding and data stands last.
 #![tactic(auto)]
 
-ghost use Rattle.std.specs.Prelude.{◌≡◌, ◌≢◌, ◌↔◌, ◌+◌, ◌*◌, ◌%◌, ◌^◌, ◌<◌, ◌≤◌, [], ◌∷◌, ◌++◌, length, take, drop, Some, None, IfSome, IsSome, IsTrue, IfNone, List, ℕ};
+ghost use Rattle.std.specs.Prelude.{◌≡◌, ◌≢◌, ◌↔◌, ◌+◌, ◌*◌, ◌^◌, ◌<◌, ◌≤◌, [], ◌∷◌, ◌++◌, length, drop, Some, None, IfSome, IsSome, IsTrue, IfNone, List, ℕ};
 ghost use Rattle.std.specs.Option.{option_map, SomeIff};
 ghost use Rattle.std.specs.Int.Signed.{mag};
-ghost use Rattle.std.specs.Int.{w64, cast_unsigned};
 ghost use Rattle.std.specs.Fmt.{signed_decimal};
 ghost use Rattle.decimal.specs.Integer.{integer, longest_text};
 ghost use Rattle.store.specs.Limits.{longest_value};
 ghost use Rattle.store.specs.Answers.{over};
-ghost use Rattle.entry.specs.Entry.{longest_entry, low, tiny, number, text, body, entry, told, span_in, Encoded, Decoded, ReadsBack};
+ghost use Rattle.entry.specs.Entry.{longest_entry, tiny, number, text, body, entry, told, span_in, Encoded, Decoded, ReadsBack};
 ghost use Rattle.entry.specs.Reading.{unlow, back, tiny_in, thirteen_in, number_in, text_in, other, value_in, size_in, Taken};
 ghost use Rattle.entry.specs.Widths.{code_of, size_of, sign_of, takes};
 ghost use Rattle.entry.specs.Laws.{EntryLaws, Worked};
