@@ -105,6 +105,8 @@ impl Listpack {
         ensures below { result < total (values_in self.now) }
     {
         let mut at = from;
+        // Kept: a `fold` was tried. Its closure must know that an entry begins at `at`: it needs three clauses, or a function with
+        // them, which is longer than this loop and its one line of invariant.
         for _ in index..next {
             at += span(&self.bytes[at..]).unwrap();
         }
