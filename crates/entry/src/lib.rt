@@ -310,7 +310,7 @@ fn read_number(coded: &[u8]) -> Option<i64>
     }
 }
 
-// The text whose encoding and data these bytes are; a value is so short that its length past 63 is in the second byte alone.
+// The text whose encoding and data these bytes are.
 fn read_text(coded: &[u8]) -> Option<Value>
     ensures some { IfSome result (λ text. Some text ≡ option_map (λ place. drop place coded.now) (text_in coded.now)) }
     ensures none { IfNone result (text_in coded.now ≡ None) }
@@ -319,7 +319,11 @@ fn read_text(coded: &[u8]) -> Option<Value>
         [first @ 0x80..=0xBF, text @ ..] if text.len() == *first as usize - 0x80 => Value::new(
             text,
         ),
-        [0xE0, size, text @ ..] if *size > 63 && text.len() == *size as usize => Value::new(text),
+        [first @ 0xE0..=0xEF, second, text @ ..]
+            if text.len() > 63
+                && text.len() == u16::from_be_bytes([*first - 0xE0, *second]) as usize => {
+            Value::new(text)
+        }
         _ => None,
     }
 }
