@@ -124,9 +124,9 @@ impl Width {
 
 // ---- writing
 
-// Kept: here and in what follows an array of the caller's is filled and the length told, since all memory is lent, and the bytes
-// behind what is written stay.
 // Writes bytes, and others behind them, to the beginning of `out`, and tells how many.
+// Kept: here and in what follows the caller's array is filled and the length told, since all memory is lent, and the bytes behind
+// what is written stay.
 fn put(first: &[u8], then: &[u8], out: &mut [u8]) -> usize
     requires { length first.now + length then.now ≤ length out.old }
     ensures size { result ≡ length (first.now ++ then.now) }
@@ -165,6 +165,7 @@ fn write_number(z: i64, out: &mut [u8; LONGEST_ENTRY]) -> usize
     match Width::of(z) {
         Some(width) => write_wide(width, z, out),
         None => {
+            // 13 bits, behind the bits 110
             let bits = (z.cast_unsigned() % 0x2000) as u16;
             put(&(0xC000 + bits).to_be_bytes(), &[], out)
         }
