@@ -32,22 +32,16 @@ number_none bs h n =
 
 pub number_wide : (w : Width) (ds : List ℕ) (z : ℤ) → length ds ≡ size_of w → z ≡ back (sign_of w) (unlow ds) → number_in (code_of w ∷ ds) ≡ unless (ltb (mag z) (least_of w)) z
 number_wide Bits16 ds z e i = grind (arith, nat_tests)
-number_wide Bits24 ds z e i = grind (arith, nat_tests)
-number_wide Bits32 ds z e i = grind (arith, nat_tests)
-number_wide Bits64 ds z e i = grind (arith, nat_tests)
+number_wide w ds z e i = grind (arith, nat_tests)
 
 -- two's complement of a width's bytes has its sign bit
 pub signed : (w : Width) → 2 * sign_of w ≡ 256 ^ size_of w
 signed Bits16 = refl
-signed Bits24 = refl
-signed Bits32 = refl
-signed Bits64 = refl
+signed w = refl
 
 pub within : (w : Width) (z : ℤ) → takes w z ≡ true → (2 ^ 12 ≤ mag z) × (least_of w ≤ mag z) × (mag z < sign_of w) × (sign_of w ≤ 2 ^ 63)
 within Bits16 z t = grind (arith, nat_tests)
-within Bits24 z t = grind (arith, nat_tests)
-within Bits32 z t = grind (arith, nat_tests)
-within Bits64 z t = grind (arith, nat_tests)
+within w z t = grind (arith, nat_tests)
 
 past : (z : ℤ) → 2 ^ 12 ≤ mag z → (tiny z ≡ false) × (fits 12 z ≡ false)
 past (pos n) h = grind (arith, nat_tests)
@@ -59,9 +53,7 @@ is_wide w z t = let p = past z (within w z t).0 in cond-false (tiny z) _ _ p.0 �
   where
     rest : (w : Width) (z : ℤ) → takes w z ≡ true → cond (fits 15 z) (wide 241 2 z) (cond (fits 23 z) (wide 242 3 z) (cond (fits 31 z) (wide 243 4 z) (wide 244 8 z))) ≡ wide (code_of w) (size_of w) z
     rest Bits16 z t = grind (arith, nat_tests)
-    rest Bits24 z t = grind (arith, nat_tests)
-    rest Bits32 z t = grind (arith, nat_tests)
-    rest Bits64 z t = grind (arith, nat_tests)
+    rest w z t = grind (arith, nat_tests)
 
 -- and past 13 bits takes one
 pub taken_by : (z : ℤ) → 2 ^ 12 ≤ mag z → mag z < 2 ^ 63 → (w : Width) × (takes w z ≡ true)
@@ -79,27 +71,12 @@ spanned w ds e b = omega (arith, unlow_lt ds b, ap (λ n. 256 ^ n) e, signed w)
 -- an integer of a width takes it just where no shorter form holds it
 own : (v w : Width) (z : ℤ) → mag z < sign_of w → takes v z ≡ true → eq-value.it v w ≡ not (ltb (mag z) (least_of w))
 own Bits16 Bits16 z l t = grind (arith, nat_tests)
-own Bits16 Bits24 z l t = grind (arith, nat_tests)
-own Bits16 Bits32 z l t = grind (arith, nat_tests)
-own Bits16 Bits64 z l t = grind (arith, nat_tests)
-own Bits24 Bits16 z l t = grind (arith, nat_tests)
-own Bits24 Bits24 z l t = grind (arith, nat_tests)
-own Bits24 Bits32 z l t = grind (arith, nat_tests)
-own Bits24 Bits64 z l t = grind (arith, nat_tests)
-own Bits32 Bits16 z l t = grind (arith, nat_tests)
-own Bits32 Bits24 z l t = grind (arith, nat_tests)
-own Bits32 Bits32 z l t = grind (arith, nat_tests)
-own Bits32 Bits64 z l t = grind (arith, nat_tests)
-own Bits64 Bits16 z l t = grind (arith, nat_tests)
-own Bits64 Bits24 z l t = grind (arith, nat_tests)
-own Bits64 Bits32 z l t = grind (arith, nat_tests)
-own Bits64 Bits64 z l t = grind (arith, nat_tests)
+own v Bits16 z l t = grind (arith, nat_tests)
+own v w z l t = grind (arith, nat_tests)
 
 none_own : (w : Width) (m : ℕ) → m < 2 ^ 12 → not (ltb m (least_of w)) ≡ false
 none_own Bits16 m h = grind (arith, nat_tests)
-none_own Bits24 m h = grind (arith, nat_tests)
-none_own Bits32 m h = grind (arith, nat_tests)
-none_own Bits64 m h = grind (arith, nat_tests)
+none_own w m h = grind (arith, nat_tests)
 
 own_of : (o : Option Width) (w : Width) (z : ℤ) → mag z < sign_of w → IfSome o (λ v. IsTrue (takes v z)) → IfNone o (mag z < 2 ^ 12) → option_eq eq-value.it o (Some w) ≡ not (ltb (mag z) (least_of w))
 own_of None w z l s n = sym (none_own w (mag z) n)

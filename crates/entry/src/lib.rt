@@ -2,15 +2,14 @@
 // that hold it, any other text as it is; the length of the encoding and data stands last.
 #![tactic(auto)]
 
-ghost use Rattle.std.specs.Prelude.{◌≡◌, ◌≢◌, ◌↔◌, ◌+◌, ◌*◌, ◌%◌, ◌^◌, ◌<◌, ◌≤◌, [], ◌∷◌, ◌++◌, length, take, drop, None, IfSome, IsSome, IsTrue, IfNone, List, ℕ};
+ghost use Rattle.std.specs.Prelude.{◌≡◌, ◌≢◌, ◌↔◌, ◌+◌, ◌*◌, ◌^◌, ◌<◌, ◌≤◌, [], ◌∷◌, ◌++◌, length, drop, Some, None, IfSome, IsSome, IsTrue, IfNone, List, ℕ};
 ghost use Rattle.std.specs.Option.{option_map, SomeIff};
 ghost use Rattle.std.specs.Int.Signed.{mag};
-ghost use Rattle.std.specs.Int.{w64, cast_unsigned};
 ghost use Rattle.std.specs.Fmt.{signed_decimal};
 ghost use Rattle.decimal.specs.Integer.{integer, longest_text};
 ghost use Rattle.store.specs.Limits.{longest_value};
 ghost use Rattle.store.specs.Answers.{over};
-ghost use Rattle.entry.specs.Entry.{longest_entry, low, tiny, number, text, body, entry, told, span_in, Encoded, Decoded, ReadsBack};
+ghost use Rattle.entry.specs.Entry.{longest_entry, tiny, number, text, body, entry, told, span_in, Encoded, Decoded, ReadsBack};
 ghost use Rattle.entry.specs.Reading.{unlow, back, tiny_in, thirteen_in, number_in, text_in, other, value_in, size_in, Taken};
 ghost use Rattle.entry.specs.Widths.{code_of, size_of, sign_of, takes};
 ghost use Rattle.entry.specs.Laws.{EntryLaws, Worked};
@@ -125,9 +124,9 @@ impl Width {
 
 // ---- writing
 
-// Kept: in what follows the caller's array is filled and the length told, since all memory is lent and the bytes behind an entry or a value stay.
-
 // Writes bytes, and others behind them, to the beginning of `out`, and tells how many.
+// Kept: here and in what follows the caller's array is filled and the length told, since all memory is lent, and the bytes behind
+// what is written stay.
 fn put(first: &[u8], then: &[u8], out: &mut [u8]) -> usize
     requires { length first.now + length then.now ≤ length out.old }
     ensures size { result ≡ length (first.now ++ then.now) }
@@ -166,10 +165,9 @@ fn write_number(z: i64, out: &mut [u8; LONGEST_ENTRY]) -> usize
     match Width::of(z) {
         Some(width) => write_wide(width, z, out),
         None => {
-            let bits = z.cast_unsigned();
-            let first = 0xC0 + (bits / 256 % 32) as u8;
-            let second = (bits % 256) as u8;
-            put(&[first, second], &[], out)
+            // 13 bits, behind the bits 110
+            let bits = (z.cast_unsigned() % 0x2000) as u16;
+            put(&(0xC000 + bits).to_be_bytes(), &[], out)
         }
     }
 }
@@ -183,7 +181,7 @@ fn write_text(value: &Value, out: &mut [u8; LONGEST_ENTRY]) -> usize
     if n <= 63 {
         return put(&[0x80 + n as u8], value.bytes, out);
     }
-    put(&[0xE0 + (n / 256) as u8, (n % 256) as u8], value.bytes, out)
+    put(&(0xE000 + n as u16).to_be_bytes(), value.bytes, out)
 }
 
 // Writes the encoding and data of a value to the beginning of `out`, and tells their length.
@@ -210,6 +208,7 @@ fn write_entry(value: &Value, out: &mut [u8; LONGEST_ENTRY]) -> usize
 }
 
 // Writes the entry of a value to the beginning of `out`, and tells its length; none of a value that is too long.
+// Kept: the caller's array is filled and the length told, since all memory is lent, and the bytes behind the entry stay.
 pub fn encode(value: &[u8], out: &mut [u8; LONGEST_ENTRY]) -> Option<usize>
     ensures { Encoded value.now out.old out.new result }
 {
@@ -227,7 +226,7 @@ fn told_by(first: u8, second: u8) -> Option<usize>
         0x00..=0x7F => Some(1),
         0x80..=0xBF => Some(first as usize - 0x80 + 1),
         0xC0..=0xDF => Some(2),
-        0xE0..=0xEF => Some((first as usize - 0xE0) * 256 + second as usize + 2),
+        0xE0..=0xEF => Some(u16::from_be_bytes([first - 0xE0, second]) as usize + 2),
         _ => Some(Width::coded(first)?.size() + 1),
     }
 }
@@ -272,14 +271,14 @@ fn from_bits(sign: u64, bits: u64) -> i64
     -1 - (sign - 1 - (bits - sign)) as i64
 }
 
-// The integer of a width that data hold, unless a shorter form has it.
-fn read_wide(width: Width, data: &[u8]) -> Option<i64>
-    ensures { result ≡ number_in (code_of width ∷ «data».now) }
+// The integer of a width that bytes hold, unless a shorter form has it.
+fn read_wide(width: Width, bytes: &[u8]) -> Option<i64>
+    ensures { result ≡ number_in (code_of width ∷ bytes.now) }
 {
-    if data.len() != width.size() {
+    if bytes.len() != width.size() {
         return None;
     }
-    let z = from_bits(width.sign(), from_low(data));
+    let z = from_bits(width.sign(), from_low(bytes));
     (Width::of(z) == Some(width)).then_some(z)
 }
 
@@ -296,7 +295,7 @@ fn read_thirteen(b: u8, c: u8) -> Option<i64>
     if !(0xC0..0xE0).contains(&b) {
         return None;
     }
-    let z = from_bits(4096, (b as u64 - 0xC0) * 256 + c as u64);
+    let z = from_bits(0x1000, u16::from_be_bytes([b - 0xC0, c]) as u64);
     (!is_tiny(z)).then_some(z)
 }
 
@@ -308,19 +307,24 @@ fn read_number(coded: &[u8]) -> Option<i64>
         [] => None,
         [b] => read_tiny(*b),
         [b, c] => read_thirteen(*b, *c),
-        [code, data @ ..] => read_wide(Width::coded(*code)?, data),
+        [code, rest @ ..] => read_wide(Width::coded(*code)?, rest),
     }
 }
 
 // The text whose encoding and data these bytes are.
 fn read_text(coded: &[u8]) -> Option<Value>
-    ensures { option_map (λ v. v) result ≡ option_map (λ n. drop n coded.now) (text_in coded.now) }
+    ensures some { IfSome result (λ text. Some text ≡ option_map (λ place. drop place coded.now) (text_in coded.now)) }
+    ensures none { IfNone result (text_in coded.now ≡ None) }
 {
     match coded {
         [first @ 0x80..=0xBF, text @ ..] if text.len() == *first as usize - 0x80 => Value::new(
             text,
         ),
-        [0xE0, size, text @ ..] if *size > 63 && text.len() == *size as usize => Value::new(text),
+        [first @ 0xE0..=0xEF, second, text @ ..]
+            if text.len() > 63
+                && text.len() == u16::from_be_bytes([*first - 0xE0, *second]) as usize => {
+            Value::new(text)
+        }
         _ => None,
     }
 }
@@ -370,6 +374,8 @@ fn body_size(bytes: &[u8]) -> Option<usize>
 
 // Copies the value whose entry the bytes begin with to the beginning of `out`, and tells its length and that of the entry;
 // none where the bytes do not begin with just what `encode` writes of some value.
+// Kept: the caller's array is filled and the length told, since all memory is lent, and the bytes behind the value stay; the
+// value's length and the span are told as a pair, as the project asks.
 pub fn decode(bytes: &[u8], out: &mut [u8; LONGEST_VALUE]) -> Option<(usize, usize)>
     ensures exact { Decoded bytes.now out.old out.new result }
     ensures known { ReadsBack bytes.now out.old out.new result }

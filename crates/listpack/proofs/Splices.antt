@@ -1,31 +1,10 @@
 -- What the writes to the bytes of a listpack leave.
-use Rattle.std.proofs.Common.{◌≡◌, ℕ, ◌+◌, ◌-◌, ◌/◌, ◌%◌, ◌≤◌, List, [], ◌∷◌, ◌++◌, length, take, drop, set, sym, refl, ap, ◌∙◌, append_assoc, arith}
+use Rattle.std.proofs.Common.{◌≡◌, ℕ, ◌+◌, ◌-◌, ◌≤◌, List, ◌++◌, length, take, drop, sym, ap, ◌∙◌, append_assoc, arith}
 use borrow.Rule.Slice.PartMut.{put_mid}
 use Rattle.std.proofs.Math.Seq.{paste}
 use Rattle.std.proofs.lemmas.List.{length-append, length-drop, length-take-le, take-append-le, take_at, take-take, drop_at, drop-drop}
 use Rattle.std.proofs.lemmas.Slice.{between_is}
-use Rattle.listpack.specs.Layout.{most_bytes, header}
 use Rattle.listpack.specs.Places.{spliced}
-
-six : (bytes : List ℕ) (a b c d e f : ℕ) → 6 ≤ length bytes → set (set (set (set (set (set bytes 0 a) 1 b) 2 c) 3 d) 4 e) 5 f ≡ a ∷ b ∷ c ∷ d ∷ e ∷ f ∷ drop 6 bytes
-six [] a b c d e f h = absurd (omega arith)
-six (_ ∷ []) a b c d e f h = absurd (omega arith)
-six (_ ∷ _ ∷ []) a b c d e f h = absurd (omega arith)
-six (_ ∷ _ ∷ _ ∷ []) a b c d e f h = absurd (omega arith)
-six (_ ∷ _ ∷ _ ∷ _ ∷ []) a b c d e f h = absurd (omega arith)
-six (_ ∷ _ ∷ _ ∷ _ ∷ _ ∷ []) a b c d e f h = absurd (omega arith)
-six (_ ∷ _ ∷ _ ∷ _ ∷ _ ∷ _ ∷ bytes) a b c d e f h = refl
-
-pub header_written : (bytes : List ℕ) (size count : ℕ) → length bytes ≡ most_bytes → size ≤ most_bytes → count ≤ 250
-    → set (set (set (set (set (set bytes 0 (size % 256)) 1 (size / 256)) 2 0) 3 0) 4 count) 5 0 ≡ header size count ++ drop 6 bytes
-header_written bytes size count l s n =
-    let b : size / 256 ≡ size / 256 % 256 = omega arith in
-    let c : 0 ≡ size / 256 / 256 % 256 = omega arith in
-    let d : 0 ≡ size / 256 / 256 / 256 % 256 = omega arith in
-    let e : count ≡ count % 256 = omega arith in
-    let f : 0 ≡ count / 256 % 256 = omega arith in
-    let w = six bytes (size % 256) (size / 256) 0 0 count 0 (omega arith) in
-    cc
 
 module _ (bytes new : List ℕ) (from to end : ℕ) (order : from ≤ to) (within : to ≤ end) (long : end ≤ length bytes) (room : from + length new + (end - to) ≤ length bytes) where
   -- what is moved along, and what stays behind it

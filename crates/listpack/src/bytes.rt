@@ -23,10 +23,6 @@ pub(crate) fn write_header(bytes: &mut [u8; MOST_BYTES], size: usize, count: usi
     requires count { count ≤ 250 }
     ensures { bytes.new ≡ header size count ++ drop 6 bytes.old }
 {
-    bytes[0] = (size % 256) as u8;
-    bytes[1] = (size / 256) as u8;
-    bytes[2] = 0;
-    bytes[3] = 0;
-    bytes[4] = count as u8;
-    bytes[5] = 0;
+    bytes[..4].copy_from_slice(&(size as u32).to_le_bytes());
+    bytes[4..6].copy_from_slice(&(count as u16).to_le_bytes());
 }

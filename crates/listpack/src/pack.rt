@@ -1,5 +1,5 @@
 // A listpack, in an array with room for the largest.
-ghost use Rattle.std.specs.Prelude.{◌≡◌, ◌+◌, ◌-◌, ◌<◌, ◌≤◌, ◌↔◌, false, [], ◌∷◌, ◌++◌, length, take, drop, slice_set, if◌then◌else◌, is_ok, Some, Err, IsTrue, IsOk, OnOk, OnErr, IfOk, IsOkUnless};
+ghost use Rattle.std.specs.Prelude.{◌≡◌, ◌+◌, ◌<◌, ◌≤◌, ◌↔◌, false, [], ◌∷◌, ◌++◌, length, take, drop, slice_set, Err, IsTrue, IsOk, OnOk, OnErr, IfOk, IsOkUnless};
 ghost use Rattle.std.specs.List.{insert, remove};
 ghost use Rattle.store.specs.Limits.{longest_value};
 ghost use Rattle.store.specs.Answers.{Copied};
@@ -94,6 +94,8 @@ impl Listpack {
     }
 
     // Where the entry at `next` begins, found from where the one at `index` does.
+    // Kept: `index ≤ next` ties two arguments to each other and to the listpack, here and in three changes below. A struct of both
+    // would be built and taken apart again at each of these calls.
     fn place_from(&self, from: usize, index: usize, next: usize) -> usize
         requires here { from ≡ place (values_in self.now) index }
         requires order { index ≤ next }
@@ -103,6 +105,8 @@ impl Listpack {
         ensures below { result < total (values_in self.now) }
     {
         let mut at = from;
+        // Kept: a `fold` was tried. Its closure must know that an entry begins at `at`: it needs three clauses, or a function with
+        // them, which is longer than this loop and its one line of invariant.
         for _ in index..next {
             at += span(&self.bytes[at..]).unwrap();
         }
@@ -149,6 +153,7 @@ impl Listpack {
     ghost use Rattle.listpack.specs.Changes.{Answered};
 
     // Puts `new`, which is `more` entries, in the place of the entries from `index` up to `next`, if that fits.
+    // Kept: that an error leaves the values as they were (`err`) stands at each change, since each says itself what it leaves.
     fn exchange(
         &mut self,
         index: usize,

@@ -13,5 +13,5 @@ pub returns : goal.returns
 returns c =
     let bs = c.args.coded.now in
     let n : number_in bs ≡ None = sym c.in_default.ensures in
-    let e : value_in bs ≡ other c.in_ok-read_text.field-0 (integer c.in_ok-read_text.field-0) = ap (either bs) n ∙ text_value bs c.in_ok-read_text.field-0 (text_in bs) c.in_ok-read_text.ensures in
+    let e : value_in bs ≡ other c.in_ok-read_text.field-0 (integer c.in_ok-read_text.field-0) = ap (either bs) n ∙ text_value bs c.in_ok-read_text.field-0 (text_in bs) c.in_ok-read_text.ensures.some in
     subst (λ o. Taken o c.args.out.now c.put_text.new.out c.put_text.result) (sym e) c.put_text.ensures
