@@ -21,6 +21,7 @@ fn after(nodes: &[Node], first: u16, p: u16) -> u16
     nodes[p as usize - 1].next
 }
 
+// Kept: two of a record's five fields are handed on as `Ends`, here and in `splice_out`, since a tie reads and changes these alone.
 // Fills the first free node and puts it after node p of the list with this record, or before all where p is 0.
 fn splice_in(nodes: &mut [Node], list: &mut ListRecord, free: &mut u16, p: u16, pack: Listpack)
     requires some { 0 < free.old }
