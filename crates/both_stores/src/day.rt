@@ -1,6 +1,6 @@
 // The day: compilers push the names of finished objects on the lists of two programs, and on a third list what has failed and
 // with which status; a link worker takes names in order, the store fills up, and what is left is listed. Each step is a sentence.
-// Kept: beside the demo's functions of the same names, since the sentences differ, and here they go into a text that is compared.
+// Kept: beside the demo's functions of the same names, since the sentences differ, and here they go into a text that is compared; `text` is one line, and the two programs share no crate of their own.
 use std::alloc::AllocError;
 use std::fmt::Write;
 use store::{LONGEST_VALUE, ListEnds, Refusal, Side, WholeLists, keys, values};

@@ -31,7 +31,7 @@ fn refuse_nodes(rt: &HostRuntime) -> io::Result<()> {
     Ok(())
 }
 
-// Kept: this and the next differ in the tables and in `prepare`, which is all that they do.
+// Kept: this and the next differ in the tables and in `prepare`, which is all that they do: one function would be handed both, and nothing would be left in it.
 // The day on a flat store, as text.
 fn flat_day(day: &mut String) -> fmt::Result {
     let mut table = [Record::blank(); ROOM];

@@ -153,7 +153,7 @@ impl Listpack {
     ghost use Rattle.listpack.specs.Changes.{Answered};
 
     // Puts `new`, which is `more` entries, in the place of the entries from `index` up to `next`, if that fits.
-    // Kept: that an error leaves the values as they were (`err`) stands at each change, since each says itself what it leaves.
+    // Kept: that an error leaves the values as they were (`err`) stands at each change: it is a fact of two states, which no type keeps.
     fn exchange(
         &mut self,
         index: usize,

@@ -31,7 +31,7 @@ use store::{
 pub use table::Node;
 use table::Tables;
 
-// Kept: two tables in one struct, since the host lends them so.
+// Kept: two tables in one struct, since the host lends them so; `prepare` is given them apart, and hands them on apart until a store keeps both.
 // The two tables of a store, as they are lent.
 #[derive(Drop)]
 pub struct Lent<'a> {

@@ -15,23 +15,23 @@ use store::Side;
 // Kept: the number of a list goes with that of a node, or with an index, through these methods, and facts on the tables tie them (`e < room`, `0 < tally n ..`): a struct of
 // both would hold a number of a table that it does not hold, and be taken apart at each call.
 impl<'a> Tables<'a> {
-    // Adds a value before the one at j of a node. A node that does not take it is cut there.
-    fn put_in(&mut self, e: usize, n: u16, j: usize, value: &ShortValue<'_>)
+    // Adds a value before the one at a spot. A node that does not take it is cut there.
+    fn put_in(&mut self, e: usize, spot: Spot, value: &ShortValue<'_>)
         requires which { e < room self.old }
         requires more { 0 < self.old.free_node }
-        requires there { 0 < tally n (numbers self.old e) }
-        requires place { j ≤ length (values_at self.old.nodes.now n) }
-        ensures nodes { (ls rs : List ℕ) → numbers self.old e ≡ ls ++ n ∷ rs
+        requires there { 0 < tally spot.node (numbers self.old e) }
+        requires place { spot.place ≤ length (values_at self.old.nodes.now spot.node) }
+        ensures nodes { (ls rs : List ℕ) → numbers self.old e ≡ ls ++ spot.node ∷ rs
             → Relisted self.old self.new e (map (values_at self.old.nodes.now) ls
-            ++ (put_in takes (values_at self.old.nodes.now n) j value.now.bytes.now ++ map (values_at self.old.nodes.now) rs)) }
+            ++ (put_in takes (values_at self.old.nodes.now spot.node) spot.place value.now.bytes.now ++ map (values_at self.old.nodes.now) rs)) }
     {
         let nodes = &mut *self.nodes;
-        let pack = &mut nodes[n as usize - 1].pack;
-        if pack.insert(j, value.bytes).is_ok() {
+        let pack = &mut nodes[spot.node as usize - 1].pack;
+        if pack.insert(spot.place, value.bytes).is_ok() {
             return;
         }
-        let right = divide(pack, j, value);
-        self.open(e, n, right);
+        let right = divide(pack, spot.place, value);
+        self.open(e, spot.node, right);
     }
 
     // Puts a node with the one value into a list, after its node p or before all where p is 0.
@@ -112,33 +112,39 @@ impl<'a> Tables<'a> {
     }
 
     // Kept: a bool here and in `replace_in`, since only lack of room is left as a reason, and the caller then takes another way.
-    // Writes a value over the one at j of a node, if it fits.
-    fn write_in(&mut self, e: usize, n: u16, j: usize, value: &ShortValue<'_>) -> bool
+    // Writes a value over the one at a spot, if it fits.
+    fn write_in(&mut self, e: usize, spot: Spot, value: &ShortValue<'_>) -> bool
         requires which { e < room self.old }
-        requires there { 0 < tally n (numbers self.old e) }
-        requires place { j < length (values_at self.old.nodes.now n) }
-        ensures told { result ≡ swaps (values_at self.old.nodes.now n) j value.now.bytes.now }
-        ensures nodes { (ls rs : List ℕ) → numbers self.old e ≡ ls ++ n ∷ rs
+        requires there { 0 < tally spot.node (numbers self.old e) }
+        requires place { spot.place < length (values_at self.old.nodes.now spot.node) }
+        ensures told { result ≡ swaps (values_at self.old.nodes.now spot.node) spot.place value.now.bytes.now }
+        ensures nodes { (ls rs : List ℕ) → numbers self.old e ≡ ls ++ spot.node ∷ rs
             → Relisted self.old self.new e (map (values_at self.old.nodes.now) ls
-            ++ (if result then slice_set (values_at self.old.nodes.now n) j value.now.bytes.now else values_at self.old.nodes.now n) ∷ map (values_at self.old.nodes.now) rs) }
+            ++ (if result then slice_set (values_at self.old.nodes.now spot.node) spot.place value.now.bytes.now else values_at self.old.nodes.now spot.node) ∷ map (values_at self.old.nodes.now) rs) }
     {
         let nodes = &mut *self.nodes;
-        nodes[n as usize - 1].pack.replace(j, value.bytes).is_ok()
+        nodes[spot.node as usize - 1]
+            .pack
+            .replace(spot.place, value.bytes)
+            .is_ok()
     }
 
-    // Takes the value at j out of a node. A node left empty goes out of the list.
-    fn cut_in(&mut self, e: usize, n: u16, j: usize)
+    // Takes the value at a spot out. A node left empty goes out of the list.
+    fn cut_in(&mut self, e: usize, spot: Spot)
         requires which { e < room self.old }
-        requires there { 0 < tally n (numbers self.old e) }
-        requires place { j < length (values_at self.old.nodes.now n) }
-        ensures nodes { (ls rs : List ℕ) → numbers self.old e ≡ ls ++ n ∷ rs
+        requires there { 0 < tally spot.node (numbers self.old e) }
+        requires place { spot.place < length (values_at self.old.nodes.now spot.node) }
+        ensures nodes { (ls rs : List ℕ) → numbers self.old e ≡ ls ++ spot.node ∷ rs
             → Relisted self.old self.new e (map (values_at self.old.nodes.now) ls
-            ++ (unless_empty (remove (values_at self.old.nodes.now n) j) ++ map (values_at self.old.nodes.now) rs)) }
+            ++ (unless_empty (remove (values_at self.old.nodes.now spot.node) spot.place) ++ map (values_at self.old.nodes.now) rs)) }
     {
         let nodes = &mut *self.nodes;
-        nodes[n as usize - 1].pack.remove(j).unwrap();
-        if self.holds_nothing(n) {
-            self.close(e, n);
+        nodes[spot.node as usize - 1]
+            .pack
+            .remove(spot.place)
+            .unwrap();
+        if self.holds_nothing(spot.node) {
+            self.close(e, spot.node);
         }
     }
 
@@ -191,12 +197,12 @@ impl<'a> Tables<'a> {
     {
         if index < self.lists[e].count as usize {
             let spot = self.locate(e, index);
-            self.put_in(e, spot.node, spot.place, value);
+            self.put_in(e, spot, value);
             return;
         }
-        let n = self.lists[e].last;
-        let j = self.count_in(n);
-        self.put_in(e, n, j, value);
+        let node = self.lists[e].last;
+        let place = self.count_in(node);
+        self.put_in(e, Spot { node, place }, value);
     }
 
     // Takes the value at an index out of a list.
@@ -207,7 +213,7 @@ impl<'a> Tables<'a> {
         ensures nodes { Relisted self.old self.new e (cut (nodes_of self.old e) index) }
     {
         let spot = self.locate(e, index);
-        self.cut_in(e, spot.node, spot.place);
+        self.cut_in(e, spot);
     }
 
     // Writes a value over the one at an index of a list, if its node takes it.
@@ -218,7 +224,7 @@ impl<'a> Tables<'a> {
         ensures nodes { Replaced self.old self.new e index value.now.bytes.now result }
     {
         let spot = self.locate(e, index);
-        self.write_in(e, spot.node, spot.place, value)
+        self.write_in(e, spot, value)
     }
 }
 

@@ -45,7 +45,7 @@ fn number_at(e: usize) -> u16
     e as u16 + 1
 }
 
-// Kept: `Whole` is asked of the five changes below and is no fact of `Tables`: each of them writes the nodes first and the counts after, and in between it does not hold.
+// Kept: `Whole` is asked of the five changes below and is no fact of `Tables`: four of them write the nodes first and the counts after, and in between it does not hold; the fifth is made of these.
 impl<'a> Tables<'a> {
     // The tables with all nodes and all list records free.
     pub(crate) fn cleared(nodes: &'a mut [Node], lists: &'a mut [ListRecord]) -> Tables<'a>
@@ -82,6 +82,7 @@ impl<'a> Tables<'a> {
         };
     }
 
+    // Kept: that a list has one value more is written here and in `add_before`; a function for these three lines would have to say all fields of the record again.
     // Adds a value at a side of a list that has one.
     pub(crate) fn add_end(&mut self, e: usize, side: Side, value: &ShortValue<'_>)
         requires whole { Whole self.old }

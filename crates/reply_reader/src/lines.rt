@@ -33,7 +33,7 @@ fn minus(bytes: &[u8]) -> Option<&[u8]>
     Some(rest)
 }
 
-// Kept: the number `n` below 0 is made as -1 - (n - 1), since 2 to the power 63 itself is no `i64`; the bounds make each `as` exact.
+// Kept: the number `n` below 0 is made as -1 - (n - 1), since 2 to the power 63 itself is no `i64`; `checked_sub_unsigned` would answer an Option whose None cannot come, and is no plainer.
 // Passes an integer and CR LF.
 pub fn integer_line(bytes: &[u8]) -> Result<(i64, &[u8]), Stop>
     ensures fits { IfOk result (λ p. FitsSigned w64 p.0) }

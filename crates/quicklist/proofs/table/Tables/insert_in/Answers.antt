@@ -26,8 +26,8 @@ returns-then-index-self c =
       nodes = subst (Relisted s c.put_in.new.self c.args.e) (added_there s c.args.e _ _ _ f c.args.value.now.bytes.now) (c.put_in.ensures.nodes f.before f.behind f.is);
     }
 
-pub count_in-j-requires : goal.count_in-j-requires
-count_in-j-requires c =
+pub count_in-place-requires : goal.count_in-place-requires
+count_in-place-requires c =
     let s = c.args.self.now in
     let n = (get_or s.lists.now c.args.e blank).last in
     let d = last_node s c.args.e c.args.self.now.linked c.requires.which c.requires.used n (field_read (λ (r : ListRecord). r.last) s.lists.now c.args.e 0 blank (omega (arith, c.args.self.now.same, c.requires.which))) in
@@ -39,7 +39,7 @@ put_in-requires-2 c =
     let s = c.args.self.now in
     let n = (get_or s.lists.now c.args.e blank).last in
     let d = last_node s c.args.e c.args.self.now.linked c.requires.which c.requires.used n (field_read (λ (r : ListRecord). r.last) s.lists.now c.args.e 0 blank (omega (arith, c.args.self.now.same, c.requires.which))) in
-    record { which = c.requires.which; more = c.requires.more; there = d.there; place = omega (arith, c.count_in-j.ensures) }
+    record { which = c.requires.which; more = c.requires.more; there = d.there; place = omega (arith, c.count_in-place.ensures) }
 
 pub returns : goal.returns
 returns c =
@@ -49,6 +49,6 @@ returns c =
     let d = last_node s c.args.e c.args.self.now.linked c.requires.which c.requires.used n (field_read (λ (r : ListRecord). r.last) s.lists.now c.args.e 0 blank (omega (arith, c.args.self.now.same, c.requires.which))) in
     record {
       nodes = subst (Relisted s c.put_in-2.new.self c.args.e)
-          (d.rule c.args.index c.count_in-j.result c.args.value.now.bytes.now (omega (arith, k, c.requires.counted, c.requires.there, c.if-index-self.false)) c.count_in-j.ensures)
+          (d.rule c.args.index c.count_in-place.result c.args.value.now.bytes.now (omega (arith, k, c.requires.counted, c.requires.there, c.if-index-self.false)) c.count_in-place.ensures)
           (c.put_in-2.ensures.nodes d.before [] d.is);
     }
