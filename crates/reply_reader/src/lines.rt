@@ -7,7 +7,7 @@ ghost use Rattle.wire.specs.Steps.{crlf, Stopped};
 ghost use Rattle.reply_reader.specs.Steps.{NoMinus, Integers, Heads, Head, Run, Texts};
 
 use reply::LONGEST_TEXT;
-use wire::{Bounds, Stop, first, number, pass, pass_end};
+use wire::{Bounds, Stop, number, pass, pass_end};
 
 // The integers from 0 on.
 const FROM_ZERO: Bounds = Bounds {
@@ -26,11 +26,7 @@ fn minus(bytes: &[u8]) -> Option<&[u8]>
     ensures passed { IfSome result (λ rest. bytes.now ≡ 45 ∷ rest.now) }
     ensures none { IfNone result (NoMinus bytes.now) }
 {
-    let (b, rest) = first(bytes)?;
-    if b != b'-' {
-        return None;
-    }
-    Some(rest)
+    bytes.strip_prefix(b"-")
 }
 
 // Kept: the number `n` below 0 is made as -1 - (n - 1), since 2 to the power 63 itself is no `i64`; `checked_sub_unsigned` would answer an Option whose None cannot come, and is no plainer.
