@@ -1,5 +1,5 @@
 -- The decimal texts of numbers of 64 bits: which byte strings are one, and the number that each writes.
-use Rattle.std.specs.Prelude.{◌≡◌, ℕ, ◌^◌, ◌<◌, Bool, cond, not, ◌&&◌, ◌||◌, List, length, drop, ℤ, pos, neg_ℤ, Some, None, decimal, Option, FitsSigned, ◌==◌, nat_le, nat_lt, slice_index}
+use Rattle.std.specs.Prelude.{◌≡◌, ◌≢◌, ℕ, ◌≤◌, ◌^◌, ◌<◌, Bool, cond, not, ◌&&◌, ◌||◌, List, length, drop, ℤ, pos, neg_ℤ, Some, None, decimal, Option, FitsSigned, ◌==◌, nat_le, nat_lt, slice_index}
 use Rattle.std.specs.Int.{w64}
 use Rattle.std.specs.Str.Parse.{digits_value}
 use Rattle.std.specs.Fmt.{signed_decimal}
@@ -34,6 +34,10 @@ below (Some n) = cond (nat_lt 0 n && nat_le n (2 ^ 63)) (Some (neg_ℤ (pos n)))
 -- the integer that a text writes: a natural number, with a minus in front where it is below 0
 abbrev pub integer : List ℕ → Option ℤ
 integer t = cond (slice_index t 0 == 45) (below (natural (drop 1 t))) (above (natural t))
+
+-- what every text of a number is: of 20 bytes at most, with no plus, and with a zero first, behind any minus, only alone
+abbrev pub Numberlike : List ℕ → Type 0
+Numberlike t = (length t ≤ longest_text) × (slice_index t 0 ≢ 43) × (slice_index t 0 ≡ 48 → length t ≡ 1) × (slice_index t 0 ≡ 45 → slice_index t 1 ≢ 48)
 
 -- each number of 64 bits has one text, which is the one that std writes
 pub record TextLaws : Type 0 where

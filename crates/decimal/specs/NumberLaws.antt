@@ -1,16 +1,16 @@
 -- A text is a number's just where std writes it so: the laws of `Decimal` at u64 and i64. Nothing here needs to be believed.
-use Rattle.std.proofs.Common.{◌≡◌, ℕ, zero, suc, ◌^◌, ◌<◌, ◌≤◌, Bool, true, false, cond, ◌&&◌, eqb, ltb, leb, List, [], ◌∷◌, length, get_or, ℤ, pos, negsuc, neg_ℤ, Some, None, decimal, Option, Ok, Result, IsUtf8, sym, refl, ap, ◌∙◌, subst, arith, w64, SFits}
-use Rattle.std.specs.Str.Parse.{digits_value, ParsesUnsigned, ParsesSigned}
+use Rattle.std.proofs.Common.{◌≡◌, ℕ, zero, suc, ◌^◌, ◌<◌, ◌≤◌, Bool, true, false, cond, ◌&&◌, eqb, ltb, leb, List, [], ◌∷◌, length, drop, get_or, ℤ, pos, negsuc, neg_ℤ, Some, None, decimal, Option, Ok, Result, IsUtf8, sym, refl, ap, ◌∙◌, subst, arith, w64, SFits}
+use Rattle.std.specs.Str.Parse.{digits_value, signed_digits_value, without_leading_plus, without_leading_sign, AllDigits, IsNumeral, ParsesUnsigned, ParsesSigned}
 use Rattle.std.specs.Int.Signed.{mag}
 use Rattle.std.specs.Fmt.{signed_decimal}
 use Rattle.std.specs.Str.{all_ascii_digits}
-use Rattle.std.proofs.lemmas.Str.Parse.{IsNumeralModel, numerals_by_value, tells_all_ascii_digits}
-use Rattle.std.proofs.lemmas.Fmt.{digits_decimal, digits_value-decimal, decimal_nonempty, first_decimal, decimal-digits_value, decimal_digit, parse-decimal, parse-signed_decimal, IsAscii-decimal, IsAscii-signed}
+use Rattle.std.proofs.lemmas.Str.Parse.{IsNumeralModel, numerals_by_value, tells_all_ascii_digits, tells_digits}
+use Rattle.std.proofs.lemmas.Fmt.{digits_decimal, digits_value-decimal, decimal_nonempty, first_decimal, decimal-digits_value, decimal_digit, length-decimal-le, parse-decimal, parse-signed_decimal, IsAscii-decimal, IsAscii-signed}
 use Rattle.std.proofs.lemmas.Str.{IsUtf8-from_ascii}
 use Rattle.std.proofs.lemmas.Option.{cond_some}
 use Rattle.std.proofs.lemmas.Bool.{and_parts, eqb-true, ltb-true, lt-ltb, ne_eqb, cond-true, cond-false}
 use Rattle.std.proofs.lemmas.Bool.Decides.{nat_tests}
-use Rattle.decimal.specs.Integer.{longest_text, plain, number, natural, above, below, integer}
+use Rattle.decimal.specs.Integer.{longest_text, plain, Numberlike, number, natural, above, below, integer}
 
 pub own : IsNumeralModel (λ ds. all_ascii_digits ds ≡ true) (digits_value 10)
 own = numerals_by_value _ tells_all_ascii_digits
@@ -113,3 +113,68 @@ is_natural_text n f = IsUtf8-from_ascii (decimal n) (IsAscii-decimal n f)
 -- the most bytes of a text, by std
 pub is_short : 20 ≤ longest_text
 is_short = omega arith
+
+-- ---- what the text of a number looks like
+
+pub is_numberlike_natural : (n : ℕ) → n < 2 ^ 64 → Numberlike (decimal n)
+is_numberlike_natural zero h = subst Numberlike (sym (decimal_digit 0 (omega arith))) (omega arith, λ e. omega (arith, e), λ e. refl, λ e. omega (arith, e))
+is_numberlike_natural (suc n) h =
+    let f = first_decimal (suc n) (omega arith) h in
+    (length-decimal-le 20 (suc n) (omega arith) (omega arith) (omega arith), λ e. omega (arith, f, e), λ e. omega (arith, f, e), λ e. absurd (omega (arith, f, e)))
+
+pub is_numberlike : (z : ℤ) → SFits w64 z → Numberlike (signed_decimal z)
+is_numberlike (pos n) f = is_numberlike_natural n (omega arith)
+is_numberlike (negsuc n) f =
+    let h : suc n < 2 ^ 64 = omega arith in
+    let g = first_decimal (suc n) (omega arith) h in
+    (omega (arith, length-decimal-le 19 (suc n) (omega arith) (omega arith) (omega arith)), λ e. omega (arith, e), λ e. omega (arith, e), λ e d. omega (arith, g, d))
+
+-- ---- of what looks like a number, its text alone is parsed as it
+
+digits_own : IsNumeralModel (AllDigits 10) (digits_value 10)
+digits_own = numerals_by_value _ tells_digits
+
+no_plus : (t : List ℕ) → (get_or t 0 0 ≡ 43 → ⊥) → without_leading_plus t ≡ t
+no_plus t h = ap (λ b. drop (cond b 1 0) t) (ne_eqb _ _ h)
+
+its_digits : (t : List ℕ) (m : ℕ) → (get_or t 0 0 ≡ 48 → length t ≡ 1) → (IsNumeral 10 t) × (digits_value 10 t < 2 ^ 64) → m ≡ digits_value 10 t → t ≡ decimal m
+its_digits t m l p e = sym (decimal-digits_value digits_own t p.0.1 p.0.0 l p.1) ∙ ap decimal (sym e)
+
+pub is_natural_parsed : (t : List ℕ) (n : ℕ) → Numberlike t → (IsNumeral 10 (without_leading_plus t) × (digits_value 10 (without_leading_plus t) < 2 ^ 64)) × (n ≡ digits_value 10 (without_leading_plus t)) → t ≡ decimal n
+is_natural_parsed t n l p =
+    let q = subst (λ ds. (IsNumeral 10 ds × (digits_value 10 ds < 2 ^ 64)) × (n ≡ digits_value 10 ds)) (no_plus t l.1) p in
+    its_digits t n l.2 q.0 q.1
+
+below_fits : (m : ℕ) → SFits w64 (neg_ℤ (pos m)) → m ≤ 2 ^ 63
+below_fits zero f = omega arith
+below_fits (suc k) f = omega arith
+
+-- digits that do not begin with a zero write no zero
+some_value : (t : List ℕ) (m : ℕ) → (get_or t 0 0 ≡ 48 → ⊥) → t ≡ decimal m → 0 < m
+some_value t zero h e = absurd (h (ap (λ ds. get_or ds 0 0) (e ∙ decimal_digit 0 (omega arith))))
+some_value t (suc m) h e = omega arith
+
+its_minus : (c : ℕ) (cs : List ℕ) (z : ℤ) → c ≡ 45 → (get_or cs 0 0 ≡ 48 → ⊥) → (IsNumeral 10 cs × SFits w64 (neg_ℤ (pos (digits_value 10 cs)))) × (z ≡ neg_ℤ (pos (digits_value 10 cs))) → c ∷ cs ≡ signed_decimal z
+its_minus c cs z e h p =
+    let m = digits_value 10 cs in
+    let f = below_fits m p.0.1 in
+    let d = its_digits cs m (λ k. absurd (h k)) (p.0.0, omega (arith, f)) refl in
+    ap (λ x. x ∷ cs) e ∙ ap (λ ds. 45 ∷ ds) d ∙ sym (below_zero m (some_value cs m h d) f).0 ∙ ap signed_decimal (sym p.1)
+
+its_plus : (t : List ℕ) (z : ℤ) → Numberlike t → (IsNumeral 10 (without_leading_plus t) × SFits w64 (pos (digits_value 10 (without_leading_plus t)))) × (z ≡ pos (digits_value 10 (without_leading_plus t))) → t ≡ signed_decimal z
+its_plus t z l p =
+    let q = subst (λ ds. (IsNumeral 10 ds × SFits w64 (pos (digits_value 10 ds))) × (z ≡ pos (digits_value 10 ds))) (no_plus t l.1) p in
+    let m = digits_value 10 t in
+    let s : m < 2 ^ 64 = omega (arith, q.0.1.sfits) in
+    its_digits t m l.2 (q.0.0, s) refl ∙ ap signed_decimal (sym q.1)
+
+its_case : (b : Bool) (c : ℕ) (cs : List ℕ) (z : ℤ) → (b ≡ true → c ≡ 45) → Numberlike (c ∷ cs)
+    → (IsNumeral 10 (cond b cs (without_leading_plus (c ∷ cs))) × SFits w64 (cond b (neg_ℤ (pos (digits_value 10 (cond b cs (without_leading_plus (c ∷ cs)))))) (pos (digits_value 10 (cond b cs (without_leading_plus (c ∷ cs)))))))
+    × (z ≡ cond b (neg_ℤ (pos (digits_value 10 (cond b cs (without_leading_plus (c ∷ cs)))))) (pos (digits_value 10 (cond b cs (without_leading_plus (c ∷ cs))))))
+    → c ∷ cs ≡ signed_decimal z
+its_case true c cs z h l p = its_minus c cs z (h refl) (l.3 (h refl)) p
+its_case false c cs z h l p = its_plus (c ∷ cs) z l p
+
+pub is_parsed : (t : List ℕ) (z : ℤ) → Numberlike t → (IsNumeral 10 (without_leading_sign t) × SFits w64 (signed_digits_value 10 t)) × (z ≡ signed_digits_value 10 t) → t ≡ signed_decimal z
+is_parsed [] z l p = absurd (omega (arith, p.0.0.0))
+is_parsed (c ∷ cs) z l p = its_case (eqb c 45) c cs z (eqb-true c 45) l p

@@ -1,10 +1,10 @@
 // Numbers of 64 bits as decimal text: read from the one text that a number has, and written as that text.
 #![tactic(auto)]
 
-ghost use Rattle.std.specs.Prelude.{◌≡◌, ℕ, ◌<◌, ◌≤◌, ◌^◌, ◌++◌, List, length, drop, Option, Some, Ok, IsTrue, ◌↔◌, IsUtf8, FitsSigned};
+ghost use Rattle.std.specs.Prelude.{◌≡◌, ℕ, ◌<◌, ◌≤◌, ◌^◌, ◌++◌, List, length, drop, Option, Some, Ok, IfSome, IfNone, IsUtf8, FitsSigned};
 ghost use Rattle.std.specs.Int.{w64};
-ghost use Rattle.decimal.specs.Integer.{longest_text, natural, integer, TextLaws};
-ghost use Rattle.decimal.specs.NumberLaws.{reads, writes, reads_natural, writes_natural, parses, parses_natural, parsed, parsed_natural, is_text, is_natural_text, is_short};
+ghost use Rattle.decimal.specs.Integer.{longest_text, Numberlike, natural, integer, TextLaws};
+ghost use Rattle.decimal.specs.NumberLaws.{reads, writes, reads_natural, writes_natural, parses, parses_natural, parsed, parsed_natural, is_text, is_natural_text, is_short, is_numberlike, is_numberlike_natural, is_parsed, is_natural_parsed};
 
 use itoa::{Buffer, Integer};
 use std::num::ParseIntError;
@@ -40,6 +40,11 @@ pub trait Decimal: Integer + FromStr<Err = ParseIntError> {
     ghost is_text: { (n : Self) → fits n → IsUtf8 (Self.text n) };
 
     ghost is_short: { Self.MAX_STR_LEN ≤ longest_text };
+
+    // It has at most 20 bytes, no plus, and no zero before other digits; and of what has that look, only the text of a number is parsed as it.
+    ghost is_numberlike: { (n : Self) → fits n → Numberlike (Self.text n) };
+
+    ghost is_its_text: { (t : List ℕ) (n : Self) → Numberlike t → Self.from_str_gives t (Ok n) → t ≡ Self.text n };
 }
 
 impl Decimal for u64 {
@@ -58,6 +63,10 @@ impl Decimal for u64 {
     ghost is_text = { is_natural_text };
 
     ghost is_short = { is_short };
+
+    ghost is_numberlike = { is_numberlike_natural };
+
+    ghost is_its_text = { λ t n l p. is_natural_parsed t n l p.0 };
 }
 
 impl Decimal for i64 {
@@ -76,24 +85,30 @@ impl Decimal for i64 {
     ghost is_text = { is_text };
 
     ghost is_short = { is_short };
+
+    ghost is_numberlike = { is_numberlike };
+
+    ghost is_its_text = { λ t n l p. is_parsed t n l p.0 };
 }
 
-// Whether a text is the one of a number.
-fn is_text_of<N: Decimal>(text: &[u8], number: N) -> bool
-    ensures { IsTrue result ↔ (text.now ≡ N.text number) }
+// A text as std reads it, if it looks like one of a number: of any other text few bytes are looked at.
+fn numeral(text: &[u8]) -> Option<&str>
+    ensures whole { IfSome result (λ numeral. numeral.now ≡ text.now) }
+    ensures looks { IfSome result (λ _. Numberlike text.now) }
+    ensures none { IfNone result (Numberlike text.now → IsUtf8 text.now → ⊥) }
 {
-    Buffer::new().format(number).as_bytes() == text
+    match text {
+        [b'+', ..] | [b'0', _, ..] | [b'-', b'0', ..] => None,
+        _ if text.len() > LONGEST_TEXT => None,
+        _ => str::from_utf8(text).ok(),
+    }
 }
 
 // The number that a text writes, if it writes one.
 pub fn read<N: Decimal>(text: &[u8]) -> Option<N>
     ensures { result ≡ N.number text.now }
 {
-    let number: N = str::from_utf8(text).ok()?.parse().ok()?;
-    if !is_text_of(text, number) {
-        return None;
-    }
-    Some(number)
+    numeral(text)?.parse().ok()
 }
 
 // Kept: the caller's array is filled and the length told, since the array is the caller's own and its bytes behind the text stay as they were: a text of its own would not keep them.

@@ -8,7 +8,7 @@ use Rattle.std.proofs.lemmas.Bool.Decides.{nat_tests}
 use Rattle.decimal.specs.Integer.{integer}
 use Rattle.decimal.specs.NumberLaws.{reads, writes}
 use Rattle.store.specs.Limits.{longest_value}
-use Rattle.entry.specs.Entry.{residue, low, wide, number, text, body_of, body, entry, told, span_in, longest_entry}
+use Rattle.entry.specs.Entry.{residue, low, tiny, fits, wide, number, text, body_of, body, entry, told, span_in, longest_entry}
 use Rattle.entry.specs.declared.Width.{Width}
 use Rattle.entry.specs.declared.Width.TheVariants.{Bits16, Bits24, Bits32, Bits64}
 use Rattle.entry.specs.Widths.{code_of, size_of}
@@ -30,21 +30,23 @@ kind v = go (integer v) refl
 
 -- ---- lengths
 
-number_few : (z : ℤ) → SFits w64 z → (1 ≤ length (number z)) × (length (number z) ≤ 9)
-number_few z f = number_cases (λ bs. (1 ≤ length bs) × (length bs ≤ 9)) z f (λ n e h. (omega arith, omega arith)) (λ _ _. (omega arith, omega arith)) (λ w _. (omega arith, few w))
-  where
-    few : (w : Width) → length (wide (code_of w) (size_of w) z) ≤ 9
-    few Bits16 = omega arith
-    few Bits24 = omega arith
-    few Bits32 = omega arith
-    few Bits64 = omega arith
+abbrev Few : List ℕ → Type 0
+Few bs = (1 ≤ length bs) × (length bs ≤ 9)
+
+pub number_few : (z : ℤ) → (1 ≤ length (number z)) × (length (number z) ≤ 9)
+number_few z =
+    cond_both (tiny z) _ _ Few (λ _. (omega arith, omega arith))
+    (λ _. cond_both (fits 12 z) _ _ Few (λ _. (omega arith, omega arith))
+    (λ _. cond_both (fits 15 z) _ _ Few (λ _. (omega arith, omega arith))
+    (λ _. cond_both (fits 23 z) _ _ Few (λ _. (omega arith, omega arith))
+    (λ _. cond_both (fits 31 z) _ _ Few (λ _. (omega arith, omega arith)) (λ _. (omega arith, omega arith))))))
 
 text_few : (v : List ℕ) → length v ≤ longest_value → (1 ≤ length (text v)) × (length (text v) ≤ 66)
 text_few v h = cond_both (leb (length v) 63) _ _ (λ bs. (1 ≤ length bs) × (length bs ≤ 66)) (λ _. (omega arith, omega arith)) (λ _. (omega arith, omega arith))
 
 pub body_few : (v : List ℕ) → length v ≤ longest_value → (1 ≤ length (body v)) × (length (body v) ≤ 66)
 body_few v h = elim (kind v) [
-  | an_integer z f e b ↦ (let n = number_few z f in (omega (arith, ap length b), omega (arith, ap length b)))
+  | an_integer z f e b ↦ (let n = number_few z in (omega (arith, ap length b), omega (arith, ap length b)))
   | a_text e b ↦ (let n = text_few v h in (omega (arith, ap length b), omega (arith, ap length b)))
 ]
 

@@ -78,8 +78,6 @@ enum Width {
 }
 
 impl Width {
-    const ALL: [Width; 4] = [Width::Bits16, Width::Bits24, Width::Bits32, Width::Bits64];
-
     // How many bytes stand behind the encoding.
     fn size(self) -> usize
         ensures { result ≡ size_of self }
@@ -113,12 +111,18 @@ impl Width {
         }
     }
 
-    // The width with an encoding.
+    // The width with an encoding. The four are compared as numbers, since this stands on the way of every entry that is passed.
     fn coded(code: u8) -> Option<Width>
         ensures some { IfSome result (λ w. code_of w ≡ code) }
         ensures none { result ≡ None → (w : Width) → code_of w ≢ code }
     {
-        Width::ALL.into_iter().find(|width| *width as u8 == code)
+        match code {
+            0xF1 => Some(Width::Bits16),
+            0xF2 => Some(Width::Bits24),
+            0xF3 => Some(Width::Bits32),
+            0xF4 => Some(Width::Bits64),
+            _ => None,
+        }
     }
 }
 

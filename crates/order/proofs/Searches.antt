@@ -92,3 +92,12 @@ pub least_within : {X V : Type 0} (order : V → V → Ordering) (reads : X → 
 least_within order reads [] None f h = refl
 least_within order reads (x ∷ xs) None f h = absurd (f x 0 (omega arith) tt)
 least_within order reads xs (Some i) f h = h
+
+-- a bound of an index may grow, and another fact may stand beside it
+pub within_more : (best : Option ℕ) (n m : ℕ) → n < m → IfSome best (λ b. b < n) → IfSome best (λ b. b < m)
+within_more None n m l h = tt
+within_more (Some b) n m l h = omega arith
+
+pub within_both : (r : Option ℕ) (n : ℕ) (Q : Type 0) → Q → IfSome r (λ i. i < n) → IfSome r (λ i. (i < n) × Q)
+within_both None n Q q h = tt
+within_both (Some i) n Q q h = (h, q)

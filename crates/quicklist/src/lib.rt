@@ -116,7 +116,7 @@ impl<'a> ListEnds for Quicklist<'a> {
         ensures nodes { NodesPopped (nodes_for self.old) (nodes_for self.new) side key.now result }
     {
         let end = side.index_in(self.len(key))?;
-        let size = self.value_at(key, end, out)?;
+        let size = self.copy_element(key, end, out);
         self.cut_end(side, key, end);
         Some(size)
     }

@@ -1,7 +1,7 @@
 // The records of a store of lists: one for each list, in a table that the host lends. The record of a key is the first in use that has it, and keys have ranks in ascending order.
 #![tactic(auto)]
 
-ghost use Rattle.std.specs.Prelude.{◌≡◌, ◌↔◌, ◌≢◌, [], IsTrue, MatchBool, Option as Maybe};
+ghost use Rattle.std.specs.Prelude.{◌≡◌, ◌↔◌, ◌≢◌, ◌<◌, [], length, IsTrue, IfSome, MatchBool, Option as Maybe};
 ghost use Rattle.order.specs.Keys.{Key, key_in};
 ghost use Rattle.records.specs.Records.{Found, Ranked, reading_of, used_order};
 ghost use Rattle.records.specs.Orders.{used_order_lawful};
@@ -67,7 +67,8 @@ impl TotalOrder for ListRecord {
 
 // The place of the record in use with this key, the first where there are several.
 pub fn find(records: &[ListRecord], key: &[u8]) -> Option<usize>
-    ensures { Found records.now key.now result }
+    ensures found { Found records.now key.now result }
+    ensures within { IfSome result (λ place. place < length records.now) }
 {
     records.iter().position(|it| it.is_of(key))
 }

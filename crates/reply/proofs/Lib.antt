@@ -1,2 +1,3 @@
 pub mod Overs
+pub mod Letters
 mod Writers

@@ -1,5 +1,6 @@
 -- Writes one after another.
-use Rattle.std.proofs.Common.{◌≡◌, ℕ, ◌+◌, ◌≤◌, List, [], ◌++◌, length, take, drop, Some, sym, ap, ◌∙◌, append_assoc, add-zero, add_assoc, arith, length-append, length-drop, take-append-drop, length-take}
+use Rattle.std.proofs.Common.{◌≡◌, ℕ, ◌+◌, ◌-◌, ◌≤◌, List, [], ◌++◌, length, take, drop, Some, sym, ap, ◌∙◌, append_assoc, add-zero, refl, add_assoc, arith, length-append, length-drop, take-append-drop, length-take}
+use Rattle.std.proofs.Math.Nat.{sub-zero}
 use Rattle.std.proofs.lemmas.List.{drop-drop, take_at, drop_at, length-take-le}
 use Rattle.reply.specs.Replies.{Replies, array, none, then, count, bytes_of, row_of, heading}
 use Rattle.reply.specs.Written.{over, Headed, RowWrote, WriteLaws}
@@ -63,3 +64,7 @@ arrays vs out mid after at n end head w =
 
 pub write_laws : WriteLaws
 write_laws = record { before = before; from = from; joins = over_over; arrays = arrays }
+
+-- the front of a line of digits
+pub front_of : (ds rest all : List ℕ) (n : ℕ) → all ≡ ds ++ rest → n ≡ length ds → take (n - 0) all ≡ ds
+front_of ds rest all n e h = ap (λ k. take k all) (sub-zero n ∙ h) ∙ ap (take (length ds)) e ∙ take_at ds rest (length ds) refl

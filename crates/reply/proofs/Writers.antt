@@ -1,15 +1,12 @@
 -- Bytes laid one after another.
 use Rattle.std.proofs.Common.{◌≡◌, ℕ, ◌+◌, ◌≤◌, List, ◌++◌, length, take, decimal, sym, subst, ap, ◌∙◌, arith, length-append}
 use Rattle.std.proofs.lemmas.List.{take_at}
-use Rattle.reply.specs.Replies.{bulk, bytes_of, line}
+use Rattle.reply.specs.Replies.{line}
 use Rattle.wire.specs.Steps.{crlf}
 use Rattle.reply.specs.declared.Writer.{Writer}
 use Rattle.reply.specs.Written.{over}
 use Rattle.reply.specs.Writers.{Lays}
 use Rattle.reply.proofs.Overs.{over_long, over_over}
-
-pub bulk_long : (b : List ℕ) → length (bytes_of (bulk b)) ≡ length (decimal (length b)) + length b + 5
-bulk_long b = omega (arith, length-append (line 36 (decimal (length b))) (b ++ crlf), length-append (decimal (length b)) crlf, length-append b crlf)
 
 pub lays_long : (u : List ℕ) (a b : Writer) → a.place + length u ≤ length a.out.now → Lays u a b → length b.out.now ≡ length a.out.now
 lays_long u a b h l = ap length l.laid ∙ over_long a.out.now a.place u h

@@ -3,7 +3,7 @@ use Rattle.std.specs.Prelude.{ℕ, zero, suc, ◌≤◌, List, [], ◌∷◌, �
 use Rattle.std.specs.Int.{w64}
 use Rattle.std.specs.List.{AllByRecursion}
 use Rattle.std.specs.Fmt.{signed_decimal}
-use Rattle.wire.specs.Steps.{crlf, Byte, Bytes}
+pub use Rattle.wire.specs.Steps.{crlf, Byte, Bytes}
 
 -- the most bytes of a text, and of a bulk string
 abbrev pub longest_text : ℕ

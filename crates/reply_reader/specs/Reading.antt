@@ -2,7 +2,7 @@
 use Rattle.std.specs.Prelude.{◌≡◌, ℕ, suc, ◌⊎◌, List, [], ◌++◌, length, Some, None, Option, Result, MatchResult}
 use Rattle.reply.specs.Replies.{Reply, Replies, text, error, integer, bulk, nil, nil_array, array, count, bytes_of, row_of, Lawful, deepest}
 use Rattle.wire.specs.Texts.{Begins}
-use Rattle.wire.specs.Steps.{Refused}
+pub use Rattle.wire.specs.Steps.{Refused}
 use Rattle.wire.specs.declared.stop.ReadError.{ReadError}
 use Rattle.reply_reader.specs.declared.Value.{Value}
 use Rattle.reply_reader.specs.declared.Value.TheVariants.{Text, Error, Integer, Bulk, Nil, NilArray, Array}

@@ -7,7 +7,8 @@ use Rattle.std.specs.Borrow.{Bor}
 use Rattle.reply.specs.Replies.{Reply, Replies, count, bytes_of, row_of, Lawful, EachLawful, nil_text, Letter, Text}
 use Rattle.reply_reader.specs.Reading.{Says, Means}
 use Rattle.reply_reader.specs.declared.Found.{Found}
-use Rattle.wire.specs.Steps.{crlf, Stopped, Between, Number}
+pub use Rattle.wire.specs.Steps.{Stopped, Just, Between, Number, NoDigit, Ends, Sized, Filled}
+use Rattle.wire.specs.Steps.{crlf}
 use Rattle.wire.specs.declared.stop.Stop.{Stop}
 use Rattle.reply_reader.specs.declared.Value.{Value}
 

@@ -2,7 +2,7 @@
 use Rattle.std.specs.Prelude.{ℕ, ◌+◌, ◌*◌, ◌≤◌, List, ◌∷◌, ◌++◌, length, decimal}
 use Rattle.std.specs.List.{flat_map, AllByRecursion}
 use Rattle.store.specs.Limits.{longest_value}
-use Rattle.wire.specs.Steps.{crlf, Bytes}
+pub use Rattle.wire.specs.Steps.{crlf, Bytes}
 
 -- the most arguments that a request has, the command's name among them
 abbrev pub most_arguments : ℕ

@@ -1,3 +1,4 @@
+pub use Rattle.wire.specs.Texts
 pub mod Grammar
 pub mod Answers
 pub mod Laws

@@ -2,7 +2,8 @@
 use Rattle.std.specs.Prelude.{◌≡◌, ℕ, ◌+◌, ◌≤◌, List, ◌++◌, map, length, drop}
 use Rattle.std.specs.List.{flat_map, AllByRecursion}
 use Rattle.store.specs.Limits.{longest_value}
-use Rattle.wire.specs.Steps.{Stopped, Between, Bytes}
+pub use Rattle.wire.specs.Steps.{Stopped, Just, Between, Number, NoDigit, Ends, Sized, Filled}
+use Rattle.wire.specs.Steps.{Bytes}
 use Rattle.wire.specs.declared.stop.Stop.{Stop}
 use Rattle.request.specs.Grammar.{Arguments, most_arguments, line, count_line, length_line, argument_text, request_text, Lawful}
 use Rattle.request.specs.Answers.{cut, parts_from, parts_in, arguments}

@@ -3,7 +3,8 @@ use Rattle.wire.proofs.Sizes.{bytes_from}
 use Rattle.reply.specs.Replies.{line}
 use Rattle.wire.specs.Steps.{crlf}
 use Rattle.reply.specs.Written.{over}
-use Rattle.reply.proofs.Writers.{bulk_long, lays_more, lays_count, lays_bytes}
+use Rattle.reply.proofs.Letters.{bulk_long}
+use Rattle.reply.proofs.Writers.{lays_more, lays_count, lays_bytes}
 use Rattle.reply.proofs.Writer.bulk.Goals as goal
 
 pub lay-requires : goal.lay-requires
