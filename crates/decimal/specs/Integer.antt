@@ -35,7 +35,7 @@ below (Some n) = cond (nat_lt 0 n && nat_le n (2 ^ 63)) (Some (neg_ℤ (pos n)))
 abbrev pub integer : List ℕ → Option ℤ
 integer t = cond (slice_index t 0 == 45) (below (natural (drop 1 t))) (above (natural t))
 
--- what every text of a number is: of 20 bytes at most, with no plus, and with a zero first, behind any minus, only alone
+-- how every text of a number looks: it has 20 bytes at most, no plus, a zero first only alone, and none behind a minus
 abbrev pub Numberlike : List ℕ → Type 0
 Numberlike t = (length t ≤ longest_text) × (slice_index t 0 ≢ 43) × (slice_index t 0 ≡ 48 → length t ≡ 1) × (slice_index t 0 ≡ 45 → slice_index t 1 ≢ 48)
 

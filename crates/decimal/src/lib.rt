@@ -41,7 +41,7 @@ pub trait Decimal: Integer + FromStr<Err = ParseIntError> {
 
     ghost is_short: { Self.MAX_STR_LEN ≤ longest_text };
 
-    // It has at most 20 bytes, no plus, and no zero before other digits; and of what has that look, only the text of a number is parsed as it.
+    // It has at most 20 bytes, no plus, a zero first only alone, and none behind a minus; and of what looks so, only the text of a number is parsed as it.
     ghost is_numberlike: { (n : Self) → fits n → Numberlike (Self.text n) };
 
     ghost is_its_text: { (t : List ℕ) (n : Self) → Numberlike t → Self.from_str_gives t (Ok n) → t ≡ Self.text n };
