@@ -1,4 +1,4 @@
-use Rattle.std.proofs.Common.{[], ◌∷◌, sym, ◌∙◌}
+use Rattle.std.proofs.Common.{[], ◌∷◌, sym, ◌∙◌, arith}
 use Rattle.std.proofs.lemmas.Result.{IfErr-at_err}
 use Rattle.wire.specs.Steps.{Stopped, Just}
 use Rattle.wire.proofs.Stops.{passed_on}
@@ -13,4 +13,4 @@ returns-in_err-c-clause-stopped c =
 
 pub returns-then-c-b-clause-stopped : goal.returns-then-c-b-clause-stopped
 returns-then-c-b-clause-stopped c =
-    byte_strays c.args.b c.in_ok-c.c c.args.bytes.now c.in_ok-c.rest.now (found c.first.result _ _ _ _ c.first.ensures (sym c.ok_or.ensures.value ∙ c.in_ok-c.was)) c.if-c-b.true
+    byte_strays c.args.b c.in_ok-c.c c.args.bytes.now c.in_ok-c.rest.now (found c.first.result _ _ _ _ c.first.ensures (sym c.ok_or.ensures.value ∙ c.in_ok-c.was)) (λ e. omega (arith, e, c.if-c-b.true))
